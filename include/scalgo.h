@@ -11,6 +11,22 @@
  *   are not const, keeps no pointer after the call, holds no state and allocates nothing, so that
  *   calls may run on several threads at once.
  * - Any bytes may be given: what is not lawful is answered by a number.
+ *
+ * A schema's table of positions says where every member of its tables stands. It is made once, by
+ * scalgo_positions, and lent to every function that reads messages, beside the schema:
+ *
+ *     static uint8_t positions[SCALGO_POSITIONS_ROOM];
+ *     uint64_t positions_len;
+ *     scalgo_verdict verdict;
+ *
+ *     if (scalgo_positions(SCALGO_CODING_48, schema, schema_len,
+ *                          positions, sizeof positions, &positions_len) != SCALGO_ACCEPTED)
+ *         return;  // the schema is not lawful
+ *     for (;;) {
+ *         // ... the next message
+ *         scalgo_judge(SCALGO_CODING_48, schema, schema_len, positions, positions_len,
+ *                      message, message_len, 100000, SCALGO_ALL_CONTENT, &verdict);
+ *     }
  */
 #ifndef SCALGO_H
 #define SCALGO_H
@@ -31,13 +47,14 @@ enum {
                                   place, and no direct lists */
 };
 
-/* What scalgo_judge, scalgo_read, scalgo_write and scalgo_clear_unions answer, and the number of a refused
- * case of scalgo_field and scalgo_list. Where two numbers of bytes are named, the first is of the coding of
- * 48 bits and the second of that of 32. */
+/* What scalgo_positions, scalgo_judge, scalgo_read, scalgo_write and scalgo_clear_unions answer, and the
+ * number of a refused case of scalgo_field and scalgo_list. Where two numbers of bytes are named, the
+ * first is of the coding of 48 bits and the second of that of 32. */
 enum {
     SCALGO_ACCEPTED = 0,
     SCALGO_SCHEMA = 1,         /* the schema is not lawful; under 32 bits also one with a union not in
-                                  place, a table in place, a list of unions or a direct list */
+                                  place, a table in place, a list of unions or a direct list. Or
+                                  the positions are not the schema's own under the coding */
     SCALGO_MESSAGE_SIZE = 2,   /* the message is under 10 or 8 bytes, or over 16,777,215 */
     SCALGO_MESSAGE_MAGIC = 3,  /* wrong message magic */
     SCALGO_BUDGET = 4,         /* visits spent */
@@ -65,6 +82,11 @@ enum {
 
 /* The largest content allowance; no walk spends as much. */
 #define SCALGO_ALL_CONTENT UINT64_MAX
+
+/* Room for the positions of any schema: it has at most 64 tables of at most 64 members, and a member
+ * takes 12 bytes, so 64 * 64 * 12. Six times schema_len is enough too, for a member takes two
+ * bytes of the schema. */
+#define SCALGO_POSITIONS_ROOM 49152
 
 /* What scalgo_judge and scalgo_read say of a message.
  *
@@ -104,8 +126,23 @@ enum {
     SCALGO_CASE_REFUSED = 7    /* a: one of the numbers above; b: its place; c: its member */
 };
 
+/* Works out where the members of a schema's tables stand and answers 0, or 1 if the schema is not
+ * lawful under the coding, or else 14.
+ *
+ * positions, room: where the table goes. With a refusal it is unchanged; else its first *length
+ *         bytes are the table, and the bytes after them keep what they held. It has three
+ *         little-endian numbers of 32 bits for each table member, in the schema's order: the first
+ *         bit of its value in the fixed part, that of its flag, or 4,294,967,295 if it has none,
+ *         and its size in bits. Bit n is bit n % 8, counted from the lowest, of byte n / 8.
+ * *length: the bytes of the table; 0 with a refusal.
+ */
+uint32_t scalgo_positions(uint32_t coding, const uint8_t *schema, size_t schema_len,
+                          uint8_t *positions, size_t room, uint64_t *length);
+
 /* Judges a message by a packed schema and answers 0 to 10 of the numbers above, 16 or 17.
  *
+ * positions: the table that scalgo_positions gives of this schema under this coding, of its length.
+ *         With any other table, of any length, the answer is that of a schema that is not lawful.
  * visits: how many objects may be visited; the next is refused by 4 before it is looked at.
  * content: how many content bytes the visited objects may have in all; an object that fits the message
  *         and with which there would be more is refused by 17, before its bytes are judged.
@@ -113,11 +150,13 @@ enum {
  * *verdict: the number and all that there is to say of it.
  */
 uint32_t scalgo_judge(uint32_t coding, const uint8_t *schema, size_t schema_len,
+                      const uint8_t *positions, size_t positions_len,
                       const uint8_t *message, size_t message_len,
                       uint32_t visits, uint64_t content, scalgo_verdict *verdict);
 
 /* Reads one field and answers its case.
  *
+ * positions: as of scalgo_judge.
  * path: a number for each table member, element of a list or direct list, or struct member on the
  *       way from the root table, counted from 0; a union is passed through without one. An empty path
  *       leads to the root table. Only what is on the path is judged, without an allowance. Where
@@ -129,6 +168,7 @@ uint32_t scalgo_judge(uint32_t coding, const uint8_t *schema, size_t schema_len,
  * Its member is as in a verdict: SCALGO_NO_MEMBER with 1 to 7, 15 and 16.
  */
 uint32_t scalgo_field(uint32_t coding, const uint8_t *schema, size_t schema_len,
+                      const uint8_t *positions, size_t positions_len,
                       const uint8_t *message, size_t message_len,
                       const uint32_t *path, size_t path_len,
                       uint64_t *a, uint64_t *b, uint64_t *c);
@@ -139,9 +179,11 @@ uint32_t scalgo_field(uint32_t coding, const uint8_t *schema, size_t schema_len,
  * scalgo_field says why. A text is judged here too, whether the message was or not: its part is
  * always UTF-8, in which U+0000 may occur.
  *
+ * positions: as of scalgo_judge.
  * path: as of scalgo_field.
  */
 uint32_t scalgo_text(uint32_t coding, const uint8_t *schema, size_t schema_len,
+                     const uint8_t *positions, size_t positions_len,
                      const uint8_t *message, size_t message_len,
                      const uint32_t *path, size_t path_len,
                      uint64_t *start, uint64_t *length);
@@ -150,6 +192,7 @@ uint32_t scalgo_text(uint32_t coding, const uint8_t *schema, size_t schema_len,
  * lists: steps of a list reader that starts at element `from`. Answers how many elements the list
  * has. A direct list may have 4,294,967,295 elements of no bytes each in a small message.
  *
+ * positions: as of scalgo_judge.
  * path: as of scalgo_field, to the list.
  * cases, cases_len: four numbers a step: what scalgo_field answers at the path of that element,
  *         and its a, b and c. There are as many steps as there is room for, cases_len / 4; the
@@ -161,13 +204,14 @@ uint32_t scalgo_text(uint32_t coding, const uint8_t *schema, size_t schema_len,
  * place and member are written too.
  */
 uint64_t scalgo_list(uint32_t coding, const uint8_t *schema, size_t schema_len,
+                     const uint8_t *positions, size_t positions_len,
                      const uint8_t *message, size_t message_len,
                      const uint32_t *path, size_t path_len,
                      uint64_t from, uint64_t *cases, size_t cases_len);
 
 /* Reads a message to its value sheet and answers 0 to 10, 16 or 17 as scalgo_judge does, or 14.
  *
- * visits, content: as of scalgo_judge.
+ * positions, visits, content: as of scalgo_judge.
  * *verdict: as of scalgo_judge; with 14 the place is 0, there is no member, and visits and content
  *         are those of the accepted message.
  * sheet, room: where the sheet goes. With a refusal it is unchanged; else its first *length bytes
@@ -175,6 +219,7 @@ uint64_t scalgo_list(uint32_t coding, const uint8_t *schema, size_t schema_len,
  * *length: the bytes of the sheet; 0 with a refusal.
  */
 uint32_t scalgo_read(uint32_t coding, const uint8_t *schema, size_t schema_len,
+                     const uint8_t *positions, size_t positions_len,
                      const uint8_t *message, size_t message_len,
                      uint32_t visits, uint64_t content, uint8_t *sheet, size_t room,
                      scalgo_verdict *verdict, uint64_t *length);

@@ -1,5 +1,7 @@
 //! What stands at the end of a path.
 
+use crate::NotLawful;
+
 /// What stands at the end of a path.
 #[derive(Clone, Copy, Debug, PartialEq, Eq)]
 pub enum Answer {
@@ -25,6 +27,17 @@ pub enum Answer {
         place: u64,
         member: Option<u32>,
     },
+}
+
+impl From<NotLawful> for Answer {
+    /// The answer at any path by a schema that is not lawful.
+    fn from(_: NotLawful) -> Answer {
+        Answer::Refused {
+            number: NotLawful::NUMBER,
+            place: 0,
+            member: None,
+        }
+    }
 }
 
 /// The library's number of a member: the largest of 32 bits says that there is none.

@@ -28,7 +28,7 @@ pub struct ClearAnswer {
 /// sheet with it, and writing that sheet with the cleared schema:
 ///
 /// ```
-/// use scalgo::{clear_unions, read, write, Budget, Coding::Bits48};
+/// use scalgo::{clear_unions, Budget, Coding::Bits48, Schema};
 ///
 /// // A table with a U8 and, in place, a union of a text; and a stored message of 5 and "ab".
 /// let schema = b"\x00\x00\x01\x01\x00\x01\x68\x00\x4C\x49\x43\x45\x02\x08\x00\x8A\x00";
@@ -36,20 +36,22 @@ pub struct ClearAnswer {
 ///     \x45\x43\x49\x4C\x09\x00\x00\x00\x00\x00\x05\x01\x00\x02\x00\x00\x00\x00\x00ab\x00";
 ///
 /// let mut sheet = [0; 100];
-/// let answer = read(Bits48, schema, message, Budget::LARGEST, &mut sheet);
+/// let stored = Schema::new(Bits48, schema)?;
+/// let answer = stored.read(message, Budget::LARGEST, &mut sheet);
 /// assert!(answer.verdict.accepted());
 /// let sheet = &sheet[..answer.length];
 ///
 /// // By its own schema it is no longer written.
 /// let mut written = [0; 100];
-/// assert_eq!(write(Bits48, schema, sheet, &mut written).number, 12);
+/// assert_eq!(stored.write(sheet, &mut written).number, 12);
 ///
 /// let mut cleared = *schema;
 /// let answer = clear_unions(schema, &mut cleared);
 /// assert_eq!((answer.number, answer.length), (0, schema.len()));
 /// assert_eq!(cleared, *b"\x00\x00\x01\x01\x00\x01\x68\x00\x4C\x49\x43\x45\x02\x08\x00\x88\x00");
 ///
-/// let answer = write(Bits48, &cleared, sheet, &mut written);
+/// let cleared = Schema::new(Bits48, cleared)?;
+/// let answer = cleared.write(sheet, &mut written);
 /// assert_eq!((answer.number, answer.length), (0, 42));
 /// let moved = &written[..answer.length];
 /// assert_eq!(moved, b"\xB3\xC4\xC0\xB5\x0A\x00\x00\x00\x00\x00\
@@ -58,8 +60,9 @@ pub struct ClearAnswer {
 ///
 /// // Its sheet is the same.
 /// let mut back = [0; 100];
-/// let answer = read(Bits48, &cleared, moved, Budget::LARGEST, &mut back);
+/// let answer = cleared.read(moved, Budget::LARGEST, &mut back);
 /// assert_eq!(&back[..answer.length], sheet);
+/// # Ok::<(), scalgo::NotLawful>(())
 /// ```
 ///
 /// The write is refused by 12 only where the stored schema's would have been while unions in place

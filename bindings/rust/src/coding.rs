@@ -6,8 +6,8 @@ pub enum Coding {
     /// Offsets and lengths of 48 bits. Unions in place are read, but no longer written.
     Bits48,
     /// The older coding: offsets and lengths of 32 bits, and unions always in place. A schema with
-    /// a union not in place, a table in place, a list of unions or a direct list is not lawful under
-    /// it.
+    /// a union not in place, a table in place, a list of unions or a direct list is not lawful
+    /// under it.
     Bits32,
 }
 

@@ -1,13 +1,15 @@
 //! Judging a message.
 
 use crate::verdict::Stored;
-use crate::{Budget, Coding, Verdict};
+use crate::{Budget, Schema, Verdict};
 
 extern "C" {
     fn scalgo_judge(
         coding: u32,
         schema: *const u8,
         schema_len: usize,
+        positions: *const u8,
+        positions_len: usize,
         message: *const u8,
         message_len: usize,
         visits: u32,
@@ -16,42 +18,48 @@ extern "C" {
     ) -> u32;
 }
 
-/// Judges a message by a packed schema, within a budget.
-///
-/// ```
-/// # let schema = b"\x00\x00\x00\x01\x00\x4C\x49\x43\x45\x02\x10\x00\x68\x00";
-/// # let message = b"\xB3\xC4\xC0\xB5\x0A\x00\x00\x00\x00\x00\
-/// #     \x45\x43\x49\x4C\x08\x00\x00\x00\x00\x00\x03\x00\x1C\x00\x00\x00\x00\x00\
-/// #     \xF5\xC8\x12\xD8\x02\x00\x00\x00\x00\x00ab\x00";
-/// use scalgo::{judge, Budget, Coding::Bits48};
-///
-/// // The table's fixed part has 8 bytes and the text 2.
-/// let enough = Budget { visits: 2, content: 10 };
-/// let verdict = judge(Bits48, schema, message, enough);
-/// assert!(verdict.accepted());
-/// assert_eq!((verdict.visits, verdict.content), (2, 10));
-///
-/// // With one visit less it is refused by 4, with one byte less by 17, both at the text.
-/// let one = judge(Bits48, schema, message, Budget { visits: 1, ..enough });
-/// assert_eq!((one.number, one.place, one.visits, one.content), (4, 28, 1, 8));
-/// let nine = judge(Bits48, schema, message, Budget { content: 9, ..enough });
-/// assert_eq!((nine.number, nine.place, nine.visits, nine.content), (17, 28, 2, 8));
-/// ```
-pub fn judge(coding: Coding, schema: &[u8], message: &[u8], budget: Budget) -> Verdict {
-    let mut stored = Stored::default();
-    // SAFETY: each slice is given as its pointer, which is not null, and its length; no one writes
-    // to either during the call; the verdict is this function's own; nothing is kept.
-    unsafe {
-        scalgo_judge(
-            coding.number(),
-            schema.as_ptr(),
-            schema.len(),
-            message.as_ptr(),
-            message.len(),
-            budget.visits,
-            budget.content,
-            &mut stored,
-        )
-    };
-    stored.into()
+impl Schema {
+    /// Judges a message, within a budget.
+    ///
+    /// ```
+    /// # let schema = b"\x00\x00\x00\x01\x00\x4C\x49\x43\x45\x02\x10\x00\x68\x00";
+    /// # let message = b"\xB3\xC4\xC0\xB5\x0A\x00\x00\x00\x00\x00\
+    /// #     \x45\x43\x49\x4C\x08\x00\x00\x00\x00\x00\x03\x00\x1C\x00\x00\x00\x00\x00\
+    /// #     \xF5\xC8\x12\xD8\x02\x00\x00\x00\x00\x00ab\x00";
+    /// use scalgo::{Budget, Coding, Schema};
+    ///
+    /// let schema = Schema::new(Coding::Bits48, schema)?;
+    /// // The table's fixed part has 8 bytes and the text 2.
+    /// let enough = Budget { visits: 2, content: 10 };
+    /// let verdict = schema.judge(message, enough);
+    /// assert!(verdict.accepted());
+    /// assert_eq!((verdict.visits, verdict.content), (2, 10));
+    ///
+    /// // With one visit less it is refused by 4, with one byte less by 17, both at the text.
+    /// let one = schema.judge(message, Budget { visits: 1, ..enough });
+    /// assert_eq!((one.number, one.place, one.visits, one.content), (4, 28, 1, 8));
+    /// let nine = schema.judge(message, Budget { content: 9, ..enough });
+    /// assert_eq!((nine.number, nine.place, nine.visits, nine.content), (17, 28, 2, 8));
+    /// # Ok::<(), scalgo::NotLawful>(())
+    /// ```
+    pub fn judge(&self, message: &[u8], budget: Budget) -> Verdict {
+        let mut stored = Stored::default();
+        // SAFETY: each slice is given as its pointer, which is not null, and its length; no one
+        // writes to any during the call; the verdict is this function's own; nothing is kept.
+        unsafe {
+            scalgo_judge(
+                self.coding().number(),
+                self.bytes().as_ptr(),
+                self.bytes().len(),
+                self.positions().as_ptr(),
+                self.positions().len(),
+                message.as_ptr(),
+                message.len(),
+                budget.visits,
+                budget.content,
+                &mut stored,
+            )
+        };
+        stored.into()
+    }
 }

@@ -4,18 +4,19 @@
 //! variable `SCALGO_LIB_DIR` names, or else in `target/staticlib` of the repository, where
 //! `rt staticlib scalgo` puts it. There is nothing else to install.
 //!
-//! No function here panics, allocates or keeps what it is given, and none has a state, so all may
-//! be called from several threads at once. Any bytes may be given: what is not lawful is answered
-//! by a number.
+//! A [`Schema`] is made once, of bytes and a [`Coding`], of which there are two. It works out where
+//! the members of its tables stand, and all that is done with messages is a method of it. Making
+//! one allocates what it keeps. No method panics, allocates or keeps what it is given, and none has
+//! a state, so all may be called from several threads at once. Any bytes may be given: what is not
+//! lawful is answered by a number.
 //!
-//! There are two codings of messages, and every function but [`clear_unions`] is told which one by its
-//! first argument, a [`Coding`]. Where the table names two numbers of bytes, the first is of the coding of 48 bits
-//! and the second of that of 32.
+//! Where the table names two numbers of bytes, the first is of the coding of 48 bits and the second
+//! of that of 32.
 //!
 //! | Number | Meaning | Place |
 //! |---|---|---|
 //! | 0 | accepted | 0 |
-//! | 1 | the schema is not lawful under the coding | 0 |
+//! | 1 | the schema is not lawful under the coding: [`NotLawful`], by no method | 0 |
 //! | 2 | the message is under 10 or 8 bytes, or over 16,777,215 | 0 |
 //! | 3 | wrong message magic | 0 |
 //! | 4 | the visits are spent | the object not visited |
@@ -37,7 +38,8 @@
 //! is refused. A text's end byte has none.
 //!
 //! UTF-8 is what RFC 3629 says, and what a [`str`] is: no overlong forms, no surrogates, nothing above
-//! U+10FFFF; U+0000 is text. So a text that is handed out can be had as one, by [`text_str`].
+//! U+10FFFF; U+0000 is text. So a text that is handed out can be had as one, by
+//! [`text_str`](Schema::text_str).
 //!
 //! Unions in place are read under both codings, but under 48 bits no longer written. A stored message
 //! with one is moved over by its sheet and a schema in which their flag is cleared: [`clear_unions`].
@@ -45,21 +47,22 @@
 //! # Example
 //!
 //! ```
-//! use scalgo::{judge, Budget, Coding};
+//! use scalgo::{Budget, Coding, Schema};
 //!
 //! // A table with a U16 and a text, and a message of the two.
-//! let schema = b"\x00\x00\x00\x01\x00\x4C\x49\x43\x45\x02\x10\x00\x68\x00";
+//! let bytes = b"\x00\x00\x00\x01\x00\x4C\x49\x43\x45\x02\x10\x00\x68\x00";
+//! let schema = Schema::new(Coding::Bits48, bytes)?;
 //! let message = b"\xB3\xC4\xC0\xB5\x0A\x00\x00\x00\x00\x00\
 //!     \x45\x43\x49\x4C\x08\x00\x00\x00\x00\x00\x03\x00\x1C\x00\x00\x00\x00\x00\
 //!     \xF5\xC8\x12\xD8\x02\x00\x00\x00\x00\x00ab\x00";
 //!
 //! // At most 100 objects, and 1,000 bytes of content in all.
 //! let budget = Budget { visits: 100, content: 1000 };
-//! let verdict = judge(Coding::Bits48, schema, message, budget);
+//! let verdict = schema.judge(message, budget);
 //! assert!(verdict.accepted());
 //! assert_eq!((verdict.visits, verdict.content), (2, 10));
 //!
-//! let cut = judge(Coding::Bits48, schema, &message[..40], budget);
+//! let cut = schema.judge(&message[..40], budget);
 //! assert_eq!((cut.number, cut.place, cut.visits), (6, 28, 2));
 //!
 //! // The same in the older coding.
@@ -67,8 +70,9 @@
 //!     \x45\x43\x49\x4C\x06\x00\x00\x00\x03\x00\x16\x00\x00\x00\
 //!     \xF5\xC8\x12\xD8\x02\x00\x00\x00ab\x00";
 //!
-//! assert!(judge(Coding::Bits32, schema, older, budget).accepted());
-//! assert_eq!(judge(Coding::Bits48, schema, older, budget).number, 6);
+//! assert!(Schema::new(Coding::Bits32, bytes)?.judge(older, budget).accepted());
+//! assert_eq!(schema.judge(older, budget).number, 6);
+//! # Ok::<(), scalgo::NotLawful>(())
 //! ```
 
 mod answer;
@@ -78,15 +82,15 @@ mod field;
 mod judge;
 mod list;
 mod read;
+mod schema;
 mod verdict;
 mod write;
 
 pub use answer::Answer;
 pub use clear::{clear_unions, ClearAnswer};
 pub use coding::Coding;
-pub use field::{field, text, text_str};
-pub use judge::judge;
-pub use list::{list, List};
-pub use read::{read, ReadAnswer};
+pub use list::List;
+pub use read::ReadAnswer;
+pub use schema::{NotLawful, Schema};
 pub use verdict::{Budget, Verdict};
-pub use write::{write, WriteAnswer};
+pub use write::WriteAnswer;

@@ -1,7 +1,7 @@
 //! The elements of a list.
 
 use crate::answer::{DIRECT_LIST, LIST, NO_PART};
-use crate::{field, Answer, Coding};
+use crate::{Answer, Schema};
 use std::fmt;
 use std::iter::FusedIterator;
 
@@ -10,6 +10,8 @@ extern "C" {
         coding: u32,
         schema: *const u8,
         schema_len: usize,
+        positions: *const u8,
+        positions_len: usize,
         message: *const u8,
         message_len: usize,
         path: *const u32,
@@ -24,11 +26,11 @@ extern "C" {
 const HELD: usize = 64;
 
 /// The elements of a direct list, or of a list of texts, bytes, lists, tables, unions or direct
-/// lists, each answered as by [`field`] at its own path. A refused element does not end it.
+/// lists, each answered as by [`field`](Schema::field) at its own path. A refused element does not end
+/// it.
 #[derive(Clone)]
 pub struct List<'a> {
-    coding: Coding,
-    schema: &'a [u8],
+    schema: &'a Schema,
     message: &'a [u8],
     path: &'a [u32],
     /// The list's number of elements.
@@ -40,54 +42,52 @@ pub struct List<'a> {
     held: [[u64; 4]; HELD],
 }
 
-/// Starts at a path that leads to a direct list, or to a list whose elements are texts, bytes, lists,
-/// tables, unions or direct lists. A refused path gives its own refusal, any other 15 at 0; then there
-/// is nothing to step through, and every step from that path would be refused so.
-///
-/// ```
-/// use scalgo::{list, Answer, Coding::Bits48};
-///
-/// // A table with a list of texts, and a message with the texts "ab" and none.
-/// let schema = b"\x00\x01\x00\x01\x00\x68\x00\x4C\x49\x43\x45\x01\x78\x00";
-/// let message = b"\xB3\xC4\xC0\xB5\x0A\x00\x00\x00\x00\x00\
-///     \x45\x43\x49\x4C\x06\x00\x00\x00\x00\x00\x1A\x00\x00\x00\x00\x00\
-///     \x46\xBB\x00\x34\x02\x00\x00\x00\x00\x00\
-///     \x30\x00\x00\x00\x00\x00\x00\x00\x00\x00\x00\x00\
-///     \xF5\xC8\x12\xD8\x02\x00\x00\x00\x00\x00ab\x00";
-///
-/// let mut texts = list(Bits48, schema, message, &[0]).expect("a list");
-/// assert_eq!(texts.len(), 2);
-/// let text = Answer::Object { kind: 13, place: 48, length: 2 };
-/// assert_eq!(texts.next(), Some(text));
-/// assert_eq!(texts.next(), Some(Answer::Absent));
-/// assert_eq!(texts.next(), None);
-///
-/// let root = list(Bits48, schema, message, &[]);
-/// let none = Answer::Refused { number: 15, place: 0, member: None };
-/// assert_eq!(root.err(), Some(none));
-/// ```
-pub fn list<'a>(
-    coding: Coding,
-    schema: &'a [u8],
-    message: &'a [u8],
-    path: &'a [u32],
-) -> Result<List<'a>, Answer> {
-    let mut list = List {
-        coding,
-        schema,
-        message,
-        path,
-        length: 0,
-        next: 0,
-        first: 0,
-        held: [[0; 4]; HELD],
-    };
-    list.length = list.fetch();
-    let first = Answer::new(list.held[0]);
-    if list.length > 0 || ends_at_once(first, field(coding, schema, message, path)) {
-        Ok(list)
-    } else {
-        Err(first)
+impl Schema {
+    /// Starts at a path that leads to a direct list, or to a list whose elements are texts, bytes,
+    /// lists, tables, unions or direct lists. A refused path gives its own refusal, any other 15 at 0;
+    /// then there is nothing to step through, and every step from that path would be refused so.
+    ///
+    /// ```
+    /// use scalgo::{Answer, Coding, Schema};
+    ///
+    /// // A table with a list of texts, and a message with the texts "ab" and none.
+    /// let schema = b"\x00\x01\x00\x01\x00\x68\x00\x4C\x49\x43\x45\x01\x78\x00";
+    /// let message = b"\xB3\xC4\xC0\xB5\x0A\x00\x00\x00\x00\x00\
+    ///     \x45\x43\x49\x4C\x06\x00\x00\x00\x00\x00\x1A\x00\x00\x00\x00\x00\
+    ///     \x46\xBB\x00\x34\x02\x00\x00\x00\x00\x00\
+    ///     \x30\x00\x00\x00\x00\x00\x00\x00\x00\x00\x00\x00\
+    ///     \xF5\xC8\x12\xD8\x02\x00\x00\x00\x00\x00ab\x00";
+    ///
+    /// let schema = Schema::new(Coding::Bits48, schema)?;
+    /// let mut texts = schema.list(message, &[0]).expect("a list");
+    /// assert_eq!(texts.len(), 2);
+    /// let text = Answer::Object { kind: 13, place: 48, length: 2 };
+    /// assert_eq!(texts.next(), Some(text));
+    /// assert_eq!(texts.next(), Some(Answer::Absent));
+    /// assert_eq!(texts.next(), None);
+    ///
+    /// let root = schema.list(message, &[]);
+    /// let none = Answer::Refused { number: 15, place: 0, member: None };
+    /// assert_eq!(root.err(), Some(none));
+    /// # Ok::<(), scalgo::NotLawful>(())
+    /// ```
+    pub fn list<'a>(&'a self, message: &'a [u8], path: &'a [u32]) -> Result<List<'a>, Answer> {
+        let mut list = List {
+            schema: self,
+            message,
+            path,
+            length: 0,
+            next: 0,
+            first: 0,
+            held: [[0; 4]; HELD],
+        };
+        list.length = list.fetch();
+        let first = Answer::new(list.held[0]);
+        if list.length > 0 || ends_at_once(first, self.field(message, path)) {
+            Ok(list)
+        } else {
+            Err(first)
+        }
     }
 }
 
@@ -119,9 +119,11 @@ impl List<'_> {
         // and lent to this function alone; nothing is kept.
         unsafe {
             scalgo_list(
-                self.coding.number(),
-                self.schema.as_ptr(),
-                self.schema.len(),
+                self.schema.coding().number(),
+                self.schema.bytes().as_ptr(),
+                self.schema.bytes().len(),
+                self.schema.positions().as_ptr(),
+                self.schema.positions().len(),
                 self.message.as_ptr(),
                 self.message.len(),
                 self.path.as_ptr(),

@@ -1,6 +1,7 @@
 //! What a walk may spend, and what is said of a message after it.
 
 use crate::answer::member;
+use crate::NotLawful;
 
 /// How much a walk over a message may spend.
 #[derive(Clone, Copy, Debug, PartialEq, Eq, Hash)]
@@ -45,6 +46,19 @@ impl Verdict {
     /// Is the message accepted?
     pub fn accepted(&self) -> bool {
         self.number == 0
+    }
+}
+
+impl From<NotLawful> for Verdict {
+    /// The verdict on any message by a schema that is not lawful.
+    fn from(_: NotLawful) -> Verdict {
+        Verdict {
+            number: NotLawful::NUMBER,
+            place: 0,
+            member: None,
+            visits: 0,
+            content: 0,
+        }
     }
 }
 

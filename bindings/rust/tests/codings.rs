@@ -1,8 +1,11 @@
 //! Every function of the wrapper under both codings. What is expected was worked out by hand from
 //! the documents of the two codings, so the numbers stand beside each other here.
 
+mod common;
+
+use common::by;
 use scalgo::Coding::{self, Bits32, Bits48};
-use scalgo::{clear_unions, field, judge, list, read, text, write, Answer, Budget, Verdict};
+use scalgo::{clear_unions, Answer, Budget, Schema, Verdict};
 
 /// The same value in one of the codings.
 struct Example {
@@ -122,7 +125,7 @@ fn numbers_of_the_codings() {
 #[test]
 fn verdicts() {
     for example in EXAMPLES {
-        let judged = |message: &[u8], many| judge(example.coding, SCHEMA, message, visits(many));
+        let judged = |message: &[u8], many| by(example.coding, SCHEMA).judge(message, visits(many));
         let (message, text, fixed) = (example.message, example.text(), example.fixed());
         assert_eq!(judged(message, 2), verdict(0, 0, 2, fixed + 2));
         assert_eq!(judged(message, 1), verdict(4, text, 1, fixed));
@@ -166,10 +169,10 @@ fn content_allowances() {
             (0, at_root),
         ] {
             let budget = Budget { visits: 2, content };
-            let given = judge(example.coding, SCHEMA, message, budget);
+            let given = by(example.coding, SCHEMA).judge(message, budget);
             assert_eq!(given, expected);
             let mut sheet = [0xEE; 9];
-            let answer = read(example.coding, SCHEMA, message, budget, &mut sheet);
+            let answer = by(example.coding, SCHEMA).read(message, budget, &mut sheet);
             let length = if expected.accepted() { 9 } else { 0 };
             assert_eq!((answer.verdict, answer.length), (expected, length));
             assert_eq!(sheet == [0xEE; 9], length == 0);
@@ -177,7 +180,7 @@ fn content_allowances() {
         // The visits are spent first.
         let (visits, content) = (1, fixed);
         let budget = Budget { visits, content };
-        let given = judge(example.coding, SCHEMA, message, budget);
+        let given = by(example.coding, SCHEMA).judge(message, budget);
         assert_eq!(given, verdict(4, text, 1, fixed));
     }
     assert_eq!(Budget::LARGEST, visits(u32::MAX));
@@ -189,10 +192,10 @@ fn messages_of_the_other_coding() {
     let [newer, older] = EXAMPLES;
     // The root is at 10 here too, but its length ends at 18: the reference is the two bytes of 3
     // and the first two of the offset.
-    let given = judge(Bits32, SCHEMA, newer.message, visits(2));
+    let given = by(Bits32, SCHEMA).judge(newer.message, visits(2));
     assert_eq!(given, verdict(6, 0x001C_0003, 2, 8));
     // The root's offset is 8 and the first two bytes of the root's id.
-    let given = judge(Bits48, SCHEMA, older.message, visits(2));
+    let given = by(Bits48, SCHEMA).judge(older.message, visits(2));
     assert_eq!(given, verdict(6, 0x4345_0000_0008, 1, 0));
 }
 
@@ -204,12 +207,12 @@ fn fields_and_texts() {
         signed: false,
     };
     for example in EXAMPLES {
-        let at = |path: &[u32]| field(example.coding, SCHEMA, example.message, path);
+        let at = |path: &[u32]| by(example.coding, SCHEMA).field(example.message, path);
         assert_eq!(at(&[]), object(16, example.first, 2 + example.offset));
         assert_eq!(at(&[0]), three);
         assert_eq!(at(&[1]), object(13, example.text(), 2));
         assert_eq!(at(&[2]), refused(15, example.first));
-        let part = |path: &[u32]| text(example.coding, SCHEMA, example.message, path);
+        let part = |path: &[u32]| by(example.coding, SCHEMA).text(example.message, path);
         assert_eq!(part(&[1]), Some(&b"ab"[..]));
         assert_eq!(part(&[0]), None);
     }
@@ -239,9 +242,9 @@ fn members() {
                 ..verdict(number, place, 1, fixed.len() as u64)
             };
             let message = message(fixed);
-            let given = judge(example.coding, schema, &message, visits(9));
+            let given = by(example.coding, schema).judge(&message, visits(9));
             assert_eq!(given, expected);
-            let answer = read(example.coding, schema, &message, visits(9), &mut [0; 9]);
+            let answer = by(example.coding, schema).read(&message, visits(9), &mut [0; 9]);
             assert_eq!((answer.verdict, answer.length), (expected, 0));
             let refused = Answer::Refused {
                 number,
@@ -249,7 +252,7 @@ fn members() {
                 member,
             };
             let path = [member.unwrap_or(0), 0];
-            assert_eq!(field(example.coding, schema, &message, &path), refused);
+            assert_eq!(by(example.coding, schema).field(&message, &path), refused);
         }
     }
 }
@@ -267,8 +270,9 @@ fn elements() {
         member,
         ..verdict(9, 26, 2, 6 + 16)
     };
-    assert_eq!(judge(Bits48, schema, message, visits(9)), expected);
-    let elements = list(Bits48, schema, message, &[0]).expect("a list");
+    assert_eq!(by(Bits48, schema).judge(message, visits(9)), expected);
+    let schema = by(Bits48, schema);
+    let elements = schema.list(message, &[0]).expect("a list");
     let (number, place) = (9, 26);
     let refused = Answer::Refused {
         number,
@@ -277,7 +281,7 @@ fn elements() {
     };
     let elements: Vec<Answer> = elements.collect();
     assert_eq!(elements, [Answer::Absent, refused]);
-    let inside = list(Bits48, schema, message, &[0, 1]).err();
+    let inside = schema.list(message, &[0, 1]).err();
     assert_eq!(inside, Some(refused));
 }
 
@@ -289,17 +293,20 @@ fn unions_in_place() {
         let fixed = 3 + example.offset;
         let place = 2 * example.first + fixed;
         let accepted = verdict(0, 0, 2, fixed + 2);
-        assert_eq!(judge(coding, IN_PLACE, message, visits(2)), accepted);
+        assert_eq!(by(coding, IN_PLACE).judge(message, visits(2)), accepted);
         let spent = verdict(4, place, 1, fixed);
-        assert_eq!(judge(coding, IN_PLACE, message, visits(1)), spent);
-        assert_eq!(field(coding, IN_PLACE, message, &[1]), object(13, place, 2));
-        assert_eq!(text(coding, IN_PLACE, message, &[1]), Some(&b"ab"[..]));
+        assert_eq!(by(coding, IN_PLACE).judge(message, visits(1)), spent);
+        assert_eq!(
+            by(coding, IN_PLACE).field(message, &[1]),
+            object(13, place, 2)
+        );
+        assert_eq!(by(coding, IN_PLACE).text(message, &[1]), Some(&b"ab"[..]));
         let mut sheet = [0xEE; 11];
-        let answer = read(coding, IN_PLACE, message, visits(2), &mut sheet);
+        let answer = by(coding, IN_PLACE).read(message, visits(2), &mut sheet);
         assert_eq!((answer.verdict, answer.length), (accepted, 10));
         assert_eq!(sheet, *b"\x41\x50\x00\x10\x00\x00\x00\x26\x16\x20\xEE");
         let mut written = vec![0xEE; message.len()];
-        let answer = write(coding, IN_PLACE, UNION_SHEET, &mut written);
+        let answer = by(coding, IN_PLACE).write(UNION_SHEET, &mut written);
         // Under 48 bits they are no longer written.
         let (number, expected) = match coding {
             Bits48 => (12, &vec![0xEE; message.len()][..]),
@@ -312,7 +319,7 @@ fn unions_in_place() {
         let mut absent = message[..place as usize].to_vec();
         let end = absent.len();
         absent[end - 2 - example.offset as usize..].fill(0);
-        let answer = write(coding, IN_PLACE, b"\x41\x40", &mut written);
+        let answer = by(coding, IN_PLACE).write(b"\x41\x40", &mut written);
         assert_eq!((answer.number, answer.length), (0, end));
         assert_eq!(written[..end], absent);
     }
@@ -356,12 +363,13 @@ fn lists() {
         // The root's header and an offset; the list's header and three offsets.
         let list_at = 2 * example.first + example.offset;
         let text_at = list_at + example.first + 3 * example.offset;
-        let elements = list(example.coding, LIST, example.texts, &[0]);
+        let schema = by(example.coding, LIST);
+        let elements = schema.list(example.texts, &[0]);
         let elements: Vec<Answer> = elements.expect("a list").collect();
         let small = refused(6, example.first - 1);
         let expected = [object(13, text_at, 2), Answer::Absent, small];
         assert_eq!(elements, expected);
-        let none = list(example.coding, LIST, example.texts, &[]).err();
+        let none = schema.list(example.texts, &[]).err();
         assert_eq!(none, Some(refused(15, 0)));
     }
 }
@@ -371,19 +379,19 @@ fn sheets_and_messages() {
     for example in EXAMPLES {
         let (coding, message) = (example.coding, example.message);
         let mut sheet = [0xEE; 10];
-        let answer = read(coding, SCHEMA, message, visits(2), &mut sheet);
+        let answer = by(coding, SCHEMA).read(message, visits(2), &mut sheet);
         let content = example.fixed() + 2;
         let accepted = verdict(0, 0, 2, content);
         assert_eq!((answer.verdict, answer.length), (accepted, 9));
         assert_eq!((&sheet[..9], sheet[9]), (SHEET, 0xEE));
-        let short = read(coding, SCHEMA, message, visits(2), &mut sheet[..8]);
+        let short = by(coding, SCHEMA).read(message, visits(2), &mut sheet[..8]);
         let no_room = verdict(14, 0, 2, content);
         assert_eq!((short.verdict, short.length), (no_room, 0));
         let mut written = vec![0xEE; message.len() + 1];
-        let answer = write(coding, SCHEMA, SHEET, &mut written);
+        let answer = by(coding, SCHEMA).write(SHEET, &mut written);
         assert_eq!((answer.number, answer.length), (0, message.len()));
         assert_eq!(written, [message, &[0xEE]].concat());
-        let short = write(coding, SCHEMA, SHEET, &mut written[..message.len() - 1]);
+        let short = by(coding, SCHEMA).write(SHEET, &mut written[..message.len() - 1]);
         assert_eq!((short.number, short.length), (14, 0));
     }
 }
@@ -402,16 +410,9 @@ fn schemas_of_one_coding() {
         // The start says 8, where the coding of 48 bits has no object.
         let message = b"\xB3\xC4\xC0\xB5\x08\0\0\0\0\0";
         let small = verdict(6, 8, 1, 0);
-        assert_eq!(judge(Bits48, schema, message, visits(2)), small);
-        let not_lawful = verdict(1, 0, 0, 0);
-        assert_eq!(judge(Bits32, schema, message, visits(2)), not_lawful);
-        assert_eq!(field(Bits32, schema, message, &[0; 97]), refused(1, 0));
-        assert_eq!(text(Bits32, schema, message, &[0]), None);
-        let none = list(Bits32, schema, message, &[0]).err();
-        assert_eq!(none, Some(refused(1, 0)));
-        let answer = read(Bits32, schema, message, visits(2), &mut [0; 9]);
-        assert_eq!((answer.verdict, answer.length), (not_lawful, 0));
-        let answer = write(Bits32, schema, &[0], &mut [0; 99]);
-        assert_eq!((answer.number, answer.length), (1, 0));
+        assert_eq!(by(Bits48, schema).judge(message, visits(2)), small);
+        let none = Schema::new(Bits32, schema).expect_err("not lawful");
+        assert_eq!(Verdict::from(none), verdict(1, 0, 0, 0));
+        assert_eq!(Answer::from(none), refused(1, 0));
     }
 }

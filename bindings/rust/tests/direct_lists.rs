@@ -1,8 +1,11 @@
 //! Direct lists by every function of the wrapper. What is expected was worked out by hand from the
 //! documents.
 
+mod common;
+
+use common::by;
 use scalgo::Coding::Bits48;
-use scalgo::{field, judge, list, read, text, write, Answer, Budget};
+use scalgo::{Answer, Budget};
 
 /// Table 0 has a direct list of table 1, which has a U16 and a text.
 const SCHEMA: &[u8] = b"\x00\x00\x00\x02\x00\
@@ -38,7 +41,7 @@ fn refused(number: u32, place: u64) -> Answer {
 #[test]
 fn judging() {
     let judged = |message: &[u8], visits, content| {
-        let verdict = judge(Bits48, SCHEMA, message, Budget { visits, content });
+        let verdict = by(Bits48, SCHEMA).judge(message, Budget { visits, content });
         assert_eq!(verdict.member, None);
         let (number, place) = (verdict.number, verdict.place);
         (number, place, verdict.visits, verdict.content)
@@ -63,7 +66,7 @@ fn judging() {
 
 #[test]
 fn fields() {
-    let answer = |path: &[u32]| field(Bits48, SCHEMA, MESSAGE, path);
+    let answer = |path: &[u32]| by(Bits48, SCHEMA).field(MESSAGE, path);
     assert_eq!(answer(&[0]), object(18, 26, 2));
     assert_eq!(answer(&[0, 0]), object(16, 44, 8));
     assert_eq!(answer(&[0, 1]), object(16, 52, 8));
@@ -71,22 +74,26 @@ fn fields() {
     assert_eq!(answer(&[0, 1, 1]), Answer::Absent);
     assert_eq!(answer(&[0, 2]), refused(15, 26));
     assert_eq!(answer(&[0, 1, 2]), refused(15, 52));
-    assert_eq!(text(Bits48, SCHEMA, MESSAGE, &[0, 0, 1]), Some(&b"ab"[..]));
-    assert_eq!(text(Bits48, SCHEMA, MESSAGE, &[0]), None);
+    assert_eq!(
+        by(Bits48, SCHEMA).text(MESSAGE, &[0, 0, 1]),
+        Some(&b"ab"[..])
+    );
+    assert_eq!(by(Bits48, SCHEMA).text(MESSAGE, &[0]), None);
 }
 
 #[test]
 fn elements() {
-    let elements = list(Bits48, SCHEMA, MESSAGE, &[0]).expect("a direct list");
+    let schema = by(Bits48, SCHEMA);
+    let elements = schema.list(MESSAGE, &[0]).expect("a direct list");
     assert_eq!(elements.len(), 2);
     let answers: Vec<Answer> = elements.collect();
     assert_eq!(answers, [object(16, 44, 8), object(16, 52, 8)]);
-    let none = list(Bits48, SCHEMA, MESSAGE, &[0, 0]).err();
+    let none = schema.list(MESSAGE, &[0, 0]).err();
     assert_eq!(none, Some(refused(15, 0)));
     // A direct list of no elements is one too.
     let mut empty = MESSAGE.to_vec();
     empty[30] = 0;
-    let elements = list(Bits48, SCHEMA, &empty, &[0]).expect("a direct list");
+    let elements = schema.list(&empty, &[0]).expect("a direct list");
     assert_eq!(elements.collect::<Vec<Answer>>(), []);
 }
 
@@ -96,23 +103,24 @@ fn elements_passed_over() {
     let mut message = MESSAGE[..44].to_vec();
     message[30..34].fill(0xFF);
     message[40] = 0;
-    let mut elements = list(Bits48, SCHEMA, &message, &[0]).expect("a direct list");
+    let schema = by(Bits48, SCHEMA);
+    let mut elements = schema.list(&message, &[0]).expect("a direct list");
     assert_eq!(elements.len(), 4_294_967_295);
     assert_eq!(elements.next(), Some(object(16, 44, 0)));
     assert_eq!(elements.nth(4_294_967_293), Some(object(16, 44, 0)));
     assert_eq!((elements.next(), elements.len()), (None, 0));
-    let verdict = judge(Bits48, SCHEMA, &message, Budget::of_visits(1000));
+    let verdict = schema.judge(&message, Budget::of_visits(1000));
     assert_eq!((verdict.number, verdict.place), (4, 44));
 }
 
 #[test]
 fn sheets_and_messages() {
     let mut sheet = [0; 17];
-    let answer = read(Bits48, SCHEMA, MESSAGE, Budget::LARGEST, &mut sheet);
+    let answer = by(Bits48, SCHEMA).read(MESSAGE, Budget::LARGEST, &mut sheet);
     assert_eq!((answer.verdict.number, answer.length), (0, 16));
     assert_eq!(sheet[..16], *SHEET);
     let mut written = [0; 80];
-    let answer = write(Bits48, SCHEMA, SHEET, &mut written);
+    let answer = by(Bits48, SCHEMA).write(SHEET, &mut written);
     assert_eq!((answer.number, answer.length), (0, 73));
     assert_eq!(written[..73], *MESSAGE);
 }

@@ -1,8 +1,11 @@
 //! Texts by every function of the wrapper under both codings. What is expected was worked out by
 //! hand from the documents and the grammar of RFC 3629.
 
+mod common;
+
+use common::by;
 use scalgo::Coding::{self, Bits32, Bits48};
-use scalgo::{field, judge, list, read, text, text_str, write, Answer, Budget, Verdict};
+use scalgo::{Answer, Budget, Verdict};
 
 /// A table with a U16 and a text.
 const SCHEMA: &[u8] = b"\x00\x00\x00\x01\x00\x4C\x49\x43\x45\x02\x10\x00\x68\x00";
@@ -108,18 +111,18 @@ fn what_is_text() {
         let place = text_at(coding).0;
         for own in TEXTS {
             let (message, length) = (message(coding, own.as_bytes()), own.len() as u64);
-            let given = judge(coding, SCHEMA, &message, Budget::LARGEST);
+            let given = by(coding, SCHEMA).judge(&message, Budget::LARGEST);
             assert_eq!(given, verdict(coding, 0, length));
-            let answer = field(coding, SCHEMA, &message, &[1]);
+            let answer = by(coding, SCHEMA).field(&message, &[1]);
             assert_eq!(answer, object(13, place, length));
-            assert_eq!(text_str(coding, SCHEMA, &message, &[1]), Some(own));
-            let part = text(coding, SCHEMA, &message, &[1]);
+            assert_eq!(by(coding, SCHEMA).text_str(&message, &[1]), Some(own));
+            let part = by(coding, SCHEMA).text(&message, &[1]);
             assert_eq!(part, Some(own.as_bytes()));
             let mut read_to = vec![0; 99];
-            let answer = read(coding, SCHEMA, &message, Budget::LARGEST, &mut read_to);
+            let answer = by(coding, SCHEMA).read(&message, Budget::LARGEST, &mut read_to);
             assert_eq!(read_to[..answer.length], sheet(own.as_bytes()));
             let mut written = vec![0; 99];
-            let answer = write(coding, SCHEMA, &sheet(own.as_bytes()), &mut written);
+            let answer = by(coding, SCHEMA).write(&sheet(own.as_bytes()), &mut written);
             assert_eq!(
                 (answer.number, &written[..answer.length]),
                 (0, &message[..])
@@ -134,20 +137,20 @@ fn what_is_none() {
         let place = text_at(coding).0;
         for other in OTHERS {
             let (message, length) = (message(coding, other), other.len() as u64);
-            let given = judge(coding, SCHEMA, &message, Budget::LARGEST);
+            let given = by(coding, SCHEMA).judge(&message, Budget::LARGEST);
             assert_eq!(given, verdict(coding, 16, length));
-            let answer = field(coding, SCHEMA, &message, &[1]);
+            let answer = by(coding, SCHEMA).field(&message, &[1]);
             assert_eq!(answer, refused(16, place));
-            assert_eq!(text_str(coding, SCHEMA, &message, &[1]), None);
-            assert_eq!(text(coding, SCHEMA, &message, &[1]), None);
+            assert_eq!(by(coding, SCHEMA).text_str(&message, &[1]), None);
+            assert_eq!(by(coding, SCHEMA).text(&message, &[1]), None);
             let mut read_to = [0xEE; 99];
-            let answer = read(coding, SCHEMA, &message, Budget::LARGEST, &mut read_to);
+            let answer = by(coding, SCHEMA).read(&message, Budget::LARGEST, &mut read_to);
             let expected = (verdict(coding, 16, length), 0);
             assert_eq!((answer.verdict, answer.length), expected);
             assert_eq!(read_to, [0xEE; 99]);
             for room in [99, 0] {
                 let mut written = vec![0xEE; room];
-                let answer = write(coding, SCHEMA, &sheet(other), &mut written);
+                let answer = by(coding, SCHEMA).write(&sheet(other), &mut written);
                 assert_eq!((answer.number, answer.length), (12, 0));
                 assert_eq!(written, vec![0xEE; room]);
             }
@@ -163,10 +166,10 @@ fn what_comes_first() {
             let mut message = message(coding, other);
             *message.last_mut().expect("an end byte") = 1;
             let length = other.len() as u64;
-            let given = judge(coding, SCHEMA, &message, Budget::LARGEST);
+            let given = by(coding, SCHEMA).judge(&message, Budget::LARGEST);
             assert_eq!(given, verdict(coding, 10, length));
             let content = text_at(coding).1 + length - 1;
-            let given = judge(coding, SCHEMA, &message, Budget { visits: 2, content });
+            let given = by(coding, SCHEMA).judge(&message, Budget { visits: 2, content });
             assert_eq!(given, verdict(coding, 17, 0));
         }
     }
@@ -181,9 +184,11 @@ fn bytes() {
             let mut message = message(coding, own);
             let at = text_at(coding).0 as usize;
             message[at..at + 4].copy_from_slice(b"\x10\xBE\xDB\xDC");
-            assert!(judge(coding, schema, &message, Budget::LARGEST).accepted());
-            assert_eq!(text(coding, schema, &message, &[1]), Some(own));
-            assert_eq!(text_str(coding, schema, &message, &[1]), None);
+            assert!(by(coding, schema)
+                .judge(&message, Budget::LARGEST)
+                .accepted());
+            assert_eq!(by(coding, schema).text(&message, &[1]), Some(own));
+            assert_eq!(by(coding, schema).text_str(&message, &[1]), None);
         }
     }
 }
@@ -198,11 +203,12 @@ fn elements() {
         \x43\x00\x00\x00\x00\x00\x36\x00\x00\x00\x00\x00\x43\x00\x00\x00\x00\x00\
         \xF5\xC8\x12\xD8\x02\x00\x00\x00\x00\x00ab\x00\
         \xF5\xC8\x12\xD8\x01\x00\x00\x00\x00\x00\xFF\x00";
-    let answers: Vec<Answer> = list(Bits48, schema, message, &[0])
+    let answers: Vec<Answer> = by(Bits48, schema)
+        .list(message, &[0])
         .expect("a list")
         .collect();
     let none = refused(16, 67);
     assert_eq!(answers, [none, object(13, 54, 2), none]);
-    let parts = [0, 1, 2].map(|element| text_str(Bits48, schema, message, &[0, element]));
+    let parts = [0, 1, 2].map(|element| by(Bits48, schema).text_str(message, &[0, element]));
     assert_eq!(parts, [None, Some("ab"), None]);
 }

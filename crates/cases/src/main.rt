@@ -3,7 +3,10 @@
 // has the largest content allowance, and the program prints its number, place and visits on a line. A case that the file does not
 // hold whole, or with a length over 64 KiB, ends the run.
 use coding::Budget;
+use coding::Verdict;
 use libc::STDOUT_FILENO;
+ghost use mathlib.Core.Path.{_≡_};
+ghost use Rattle.coding.specs.Walk as W;
 ghost use Rattle.io.specs.Counts.{Counts};
 
 // How many of so many bytes were read to the start of buf; none where buf is too small.
@@ -37,12 +40,22 @@ fn print(n: u64, end: u8) {
     io::write_all(STDOUT_FILENO, &last);
 }
 
-fn verdict(schema: &[u8], message: &[u8], visits: u32, o: usize) {
+// The verdict by a schema, whose table of positions is made here. No table has more than 64 times 64 rows of twelve bytes, so that there is
+// room for every one.
+fn verdict(schema: &[u8], message: &[u8], visits: u32, o: usize) -> Verdict
+    ensures { λ r. ⌜ r ≡ W.verdict o (now (schema .entry)) (now (message .entry)) (W.allowing visits 18446744073709551615) ⌝ }
+{
     let budget = Budget {
         visits,
         content: u64::MAX,
     };
-    let v = judge::judge(schema, message, budget, o);
+    let mut rows = [0u8; 49152];
+    let made = positions::positions(schema, &mut rows, o);
+    let n = made.length;
+    judge::judge(schema, &rows[..n], message, budget, o)
+}
+
+fn print_verdict(v: Verdict) {
     print(v.number as u64, b' ');
     print(v.place as u64, b' ');
     print(v.visits as u64, b'\n');
@@ -57,7 +70,7 @@ fn judged(fd: i32, schema_length: usize, message_length: usize, budget: u32, o: 
     if s != schema_length || m != message_length {
         return false;
     }
-    verdict(&schema[..s], &message[..m], budget, o);
+    print_verdict(verdict(&schema[..s], &message[..m], budget, o));
     true
 }
 

@@ -19,5 +19,6 @@ pub mod Sheet
 pub mod Cells
 pub mod Message
 pub mod Field
+pub mod Positions
 pub mod Append
 pub mod Moving

@@ -64,6 +64,14 @@ pub struct Placement {
     pub flag: Slot,
 }
 
+// A member's row in the table of positions: the first bit of its value in the fixed part, that of its flag (4294967295 where it
+// has none), and its size in bits.
+pub struct Row {
+    pub value: usize,
+    pub flag: usize,
+    pub size: usize,
+}
+
 // ---- the walk
 
 // Where an object stands: its offset; or, in place, where its content starts and the length that its holder gives. An element of a
@@ -144,7 +152,7 @@ pub struct ReadAnswer {
     pub length: usize,
 }
 
-// Writing a message: 0, 1, 11, 12, 13 or 14, and the length of what was written.
+// Writing a message: 0, 1, 11, 12, 13 or 14, and the length of what was written. Making the table of positions: 0, 1 or 14 of these.
 pub struct WriteAnswer {
     pub number: u8,
     pub length: usize,

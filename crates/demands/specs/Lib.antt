@@ -1,6 +1,6 @@
 -- The theorems. A reader's way in: Counter, OlderCoding, DirectLists, Traps, FieldCases, MemberCases, Allowances, Members, Sheets, Reached,
 -- RoundTrip, Appending, NewerAgrees, BiggerAllowance, ThreeSchemas, CutSheets, ThreeCases, Fields, Texts, SheetText, ListReader, Utf8,
--- Utf8Cases, OnlyText, NamesOfText, UnionsInPlace, Moved, MovedCases; the other modules are their lemmas.
+-- Utf8Cases, OnlyText, NamesOfText, UnionsInPlace, Moved, MovedCases, Positions, PositionCases; the other modules are their lemmas.
 pub mod Counter
 pub mod Traps
 pub mod OlderCoding
@@ -96,3 +96,5 @@ pub mod TextsWritten
 pub mod TextsFound
 pub mod OnlyText
 pub mod NamesOfText
+pub mod Positions
+pub mod PositionCases

@@ -2,7 +2,10 @@
 // 100000 visits and the largest content allowance, and prints number, place and visits. A file that cannot be read or is over 64 KiB
 // counts as one that is not lawful: 1 or 2.
 use coding::Budget;
+use coding::Verdict;
 use libc::STDOUT_FILENO;
+ghost use mathlib.Core.Path.{_≡_};
+ghost use Rattle.coding.specs.Walk as W;
 ghost use Rattle.io.specs.Counts.{Counts};
 
 // How many bytes the open file has, all of them read to the start of buf; 0 where a read fails or buf is filled: then the file
@@ -48,16 +51,27 @@ fn print(n: u64, end: u8) {
     io::write_all(STDOUT_FILENO, &last);
 }
 
+// The verdict by a schema, whose table of positions is made here. No table has more than 64 times 64 rows of twelve bytes, so that there is
+// room for every one.
+fn verdict(schema: &[u8], message: &[u8]) -> Verdict
+    ensures { λ r. ⌜ r ≡ W.verdict 6 (now (schema .entry)) (now (message .entry)) (W.allowing 100000 18446744073709551615) ⌝ }
+{
+    let budget = Budget {
+        visits: 100000,
+        content: u64::MAX,
+    };
+    let mut rows = [0u8; 49152];
+    let made = positions::positions(schema, &mut rows, wire::U48);
+    let n = made.length;
+    judge::judge(schema, &rows[..n], message, budget, wire::U48)
+}
+
 fn main() {
     let mut schema = [0u8; 65537];
     let s = load(b"schema.bin", &mut schema);
     let mut message = [0u8; 65537];
     let m = load(b"message.bin", &mut message);
-    let budget = Budget {
-        visits: 100000,
-        content: u64::MAX,
-    };
-    let v = judge::judge(&schema[..s], &message[..m], budget, wire::U48);
+    let v = verdict(&schema[..s], &message[..m]);
     print(v.number as u64, b' ');
     print(v.place as u64, b' ');
     print(v.visits as u64, b'\n');

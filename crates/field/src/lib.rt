@@ -14,6 +14,7 @@ ghost use lib.ListN.{length, take, drop};
 ghost use Rattle.coding.specs.Field as F;
 ghost use Rattle.coding.specs.Lists.{pick};
 ghost use Rattle.coding.specs.Packed as P;
+ghost use Rattle.coding.specs.Positions as Po;
 ghost use Rattle.coding.specs.Walk as W;
 ghost use Rattle.laws.specs.Sound.{FlatSound, KindSound};
 ghost use Rattle.field_arrival.specs.Within.{FoundIn};
@@ -73,11 +74,11 @@ pub fn answer_of(b: &[u8], m: &[u8], f: Found, o: usize) -> Answer
     }
 }
 
-// One field's answer, of any message by any schema.
-pub fn field(b: &[u8], m: &[u8], path: &[u32], o: usize) -> Answer
-    ensures { λ r. ⌜ r ≡ F.field o (now (b .entry)) (now (m .entry)) (now (path .entry)) ⌝ }
+// One field's answer, of any message by any schema with any table of positions.
+pub fn field(b: &[u8], rows: &[u8], m: &[u8], path: &[u32], o: usize) -> Answer
+    ensures { λ r. ⌜ r ≡ F.field o (Po.withTable o (now (b .entry)) (now (rows .entry))) (now (m .entry)) (now (path .entry)) ⌝ }
 {
-    let found = field_path::field_found(b, m, path, o);
+    let found = field_path::field_found(b, rows, m, path, o);
     answer_of(b, m, found, o)
 }
 
@@ -229,10 +230,10 @@ fn span_of(f: Found) -> Span
 }
 
 // Where the text or the bytes stand that a path leads to, if it leads to such.
-pub fn text_span(b: &[u8], m: &[u8], path: &[u32], o: usize) -> Span
-    ensures { λ r. ⌜ (r ≡ F.fieldSpan o (now (b .entry)) (now (m .entry)) (now (path .entry))) × (r .start + r .length ≤ length (now (m .entry))) ⌝ }
+pub fn text_span(b: &[u8], rows: &[u8], m: &[u8], path: &[u32], o: usize) -> Span
+    ensures { λ r. ⌜ (r ≡ F.fieldSpan o (Po.withTable o (now (b .entry)) (now (rows .entry))) (now (m .entry)) (now (path .entry))) × (r .start + r .length ≤ length (now (m .entry))) ⌝ }
 {
-    let f = field_path::field_found(b, m, path, o);
+    let f = field_path::field_found(b, rows, m, path, o);
     span_of(f)
 }
 
@@ -245,9 +246,9 @@ fn part_at<'a>(m: &'a [u8], start: usize, n: usize) -> &'a [u8]
 }
 
 // The text or the bytes that a path leads to, as a part of the message.
-pub fn field_text<'a>(b: &[u8], m: &'a [u8], path: &[u32], o: usize) -> &'a [u8]
-    ensures { λ r. ⌜ now r ≡ F.fieldText o (now (b .entry)) (now (m .entry)) (now (path .entry)) ⌝ }
+pub fn field_text<'a>(b: &[u8], rows: &[u8], m: &'a [u8], path: &[u32], o: usize) -> &'a [u8]
+    ensures { λ r. ⌜ now r ≡ F.fieldText o (Po.withTable o (now (b .entry)) (now (rows .entry))) (now (m .entry)) (now (path .entry)) ⌝ }
 {
-    let s = text_span(b, m, path, o);
+    let s = text_span(b, rows, m, path, o);
     part_at(m, s.start, s.length)
 }

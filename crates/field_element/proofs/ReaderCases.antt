@@ -6,6 +6,7 @@ use Prim.Native.Nat.{ℕ}
 use Rattle.coding.specs.Schema as Sc
 use Rattle.coding.specs.Schema.{Schema}
 use Rattle.coding.specs.Packed as P
+use Rattle.coding.specs.Lawful.{lawful}
 use Rattle.coding.specs.Walk as W
 use Rattle.coding.specs.Field as Field
 use Rattle.coding.specs.declared.Flat.{Flat}
@@ -19,7 +20,6 @@ use Rattle.coding.specs.declared.Refusal.{Refusal}
 use Rattle.coding.specs.declared.Answer.{Answer}
 use Rattle.coding.specs.declared.Answer.the-variants as A
 use Rattle.laws.specs.Lists.{pick-holds}
-use Rattle.schema.specs.Directory.{Judged}
 use Rattle.coding.specs.Field.{listGives, readerGives}
 use Rattle.field_arrival.specs.Within.{FoundWithin}
 use Rattle.field_path.proofs.PathCases.{unlawful}
@@ -115,10 +115,10 @@ unfolding Field.readerStart
 reader-found o b m path f e r q = q ∙ ap (Field.readerOf (P.parse b)) e
 
 -- ---- an unlawful schema
-module _ (o : ℕ) (b dir m path : List ℕ) (t : Bool) (j : Judged o b dir t) (f : t ≡ false) where
+module _ (o : ℕ) (b m path : List ℕ) (f : lawful o b ≡ false) where
   pub start-unlawful : Field.readerStart o b m path ≡ Fd.Refused (W.refusal 1 0)
   unfolding Field.readerStart Field.readerOf
-  start-unlawful = ap (Field.readerOf (P.parse b)) (unlawful o b dir m path t j f)
+  start-unlawful = ap (Field.readerOf (P.parse b)) (unlawful o b m path f)
 
   pub gives-unlawful : (i : ℕ) → A.Refused (W.refusal 1 0) ≡ readerGives o b m path i
   unfolding readerGives listGives Field.partOf Field.answerOf

@@ -1,10 +1,12 @@
 -- A step of the list reader: how many elements its list has, and where it stands after the step.
 use mathlib.Core.Path.{_≡_, sym, ap, _∙_}
-use mathlib.Core.Bool.{Bool, false}
+use mathlib.Core.Bool.{Bool, true, false}
 use mathlib.Core.List.{List}
 use Prim.Native.Nat.{ℕ, _+_, _<_, _≤_}
 use native.Mathlib.Omega.{arith}
 use borrow.Author.Tests.{lt-ltb, le-ltb}
+use Rattle.coding.specs.Lawful.{lawful}
+use Rattle.coding.specs.Positions.{withTable}
 use Rattle.coding.specs.Walk as W
 use Rattle.coding.specs.Field as Field
 use Rattle.coding.specs.declared.Object.{Object}
@@ -14,7 +16,8 @@ use Rattle.coding.specs.declared.Found.the-variants as Fd
 use Rattle.coding.specs.declared.Refusal.{Refusal}
 use Rattle.coding.specs.declared.Answer.{Answer}
 use Rattle.coding.specs.declared.Answer.the-variants as A
-use Rattle.schema.specs.Directory.{Judged}
+use Rattle.positions.specs.Lent.{lent-is, lent-refused}
+use Rattle.positions.specs.Rows.{TableJudged}
 use Rattle.field_element.proofs.ReaderCases.{start-unlawful, gives-unlawful}
 
 -- ---- the number of elements
@@ -44,9 +47,9 @@ module _ (f : Found) where
   count-object ob at start n d e = rw e
 
 -- of an unlawful schema
-pub count-unlawful : (o : ℕ) (b dir m path : List ℕ) (t : Bool) → Judged o b dir t → t ≡ false → 0 ≡ Field.readerCount o b m path
+pub none-unlawful : (o : ℕ) (b m path : List ℕ) → lawful o b ≡ false → 0 ≡ Field.readerCount o b m path
 unfolding Field.readerCount Field.listCount
-count-unlawful o b dir m path t j f = sym (ap Field.listCount (start-unlawful o b dir m path t j f))
+none-unlawful o b m path f = sym (ap Field.listCount (start-unlawful o b m path f))
 
 -- of the list that a reader has found, or of the refusal that it gives
 module _ (o : ℕ) (b m path : List ℕ) (list : Found) (el : list ≡ Field.readerStart o b m path) where
@@ -67,15 +70,29 @@ next-stays n j h = simp (le-ltb _ _ h)
 pub next-none : (j : ℕ) → j ≡ Field.readerNext 0 j
 next-none j = next-stays 0 j (omega arith)
 
-pub next-unlawful : (o : ℕ) (b m path : List ℕ) (j : ℕ) (dir : List ℕ) (t : Bool) → Judged o b dir t → t ≡ false → j ≡ Field.readerNext (Field.readerCount o b m path) j
-next-unlawful o b m path j dir t u f = next-none j ∙ ap (λ (n : ℕ). Field.readerNext n j) (count-unlawful o b dir m path t u f)
-
 module _ (o : ℕ) (b m path : List ℕ) (j : ℕ) where
   pub next-found : (list : Found) → list ≡ Field.readerStart o b m path → (n : ℕ) → n ≡ Field.listCount list → (r : ℕ) → r ≡ Field.readerNext n j
       → r ≡ Field.readerNext (Field.readerCount o b m path) j
   next-found list el n en r e = e ∙ ap (λ (k : ℕ). Field.readerNext k j) (count-found o b m path list el n en)
 
--- ---- the answer where the schema is not lawful
-pub answer-unlawful : (o : ℕ) (b dir m path : List ℕ) (t : Bool) → Judged o b dir t → t ≡ false → (j : ℕ) (r : Answer) → r ≡ A.Refused (W.refusal 1 0)
-    → r ≡ Field.readerGives o b m path j
-answer-unlawful o b dir m path t u f j r e = e ∙ gives-unlawful o b dir m path t u f j
+-- ---- the schema, with the table that was handed in
+module _ (o : ℕ) (b rows dir m path : List ℕ) (t : Bool) (u : TableJudged o b rows dir t) where
+  -- where both are right, a step is that by the schema
+  pub gives-lent : t ≡ true → (j : ℕ) (r : Answer) → r ≡ Field.readerGives o b m path j → r ≡ Field.readerGives o (withTable o b rows) m path j
+  gives-lent f j r e = lent-is o b rows dir t u f (λ (s : List ℕ). Field.readerGives o s m path j) r e
+
+  pub count-lent : t ≡ true → (r : ℕ) → r ≡ Field.readerCount o b m path → r ≡ Field.readerCount o (withTable o b rows) m path
+  count-lent f r e = lent-is o b rows dir t u f (λ (s : List ℕ). Field.readerCount o s m path) r e
+
+  pub next-lent : t ≡ true → (j r : ℕ) → r ≡ Field.readerNext (Field.readerCount o b m path) j → r ≡ Field.readerNext (Field.readerCount o (withTable o b rows) m path) j
+  next-lent f j r e = lent-is o b rows dir t u f (λ (s : List ℕ). Field.readerNext (Field.readerCount o s m path) j) r e
+
+  -- otherwise every step is refused, and the reader stays
+  pub answer-unlawful : t ≡ false → (j : ℕ) (r : Answer) → r ≡ A.Refused (W.refusal 1 0) → r ≡ Field.readerGives o (withTable o b rows) m path j
+  answer-unlawful f j r e = e ∙ gives-unlawful o (withTable o b rows) m path (lent-refused o b rows dir t u f) j
+
+  pub count-unlawful : t ≡ false → 0 ≡ Field.readerCount o (withTable o b rows) m path
+  count-unlawful f = none-unlawful o (withTable o b rows) m path (lent-refused o b rows dir t u f)
+
+  pub next-unlawful : t ≡ false → (j : ℕ) → j ≡ Field.readerNext (Field.readerCount o (withTable o b rows) m path) j
+  next-unlawful f j = next-none j ∙ ap (λ (n : ℕ). Field.readerNext n j) (count-unlawful f)

@@ -12,6 +12,7 @@ ghost use lib.ListN.{length};
 ghost use Rattle.coding.specs.Bytes as B;
 ghost use Rattle.coding.specs.Field as F;
 ghost use Rattle.coding.specs.Packed as P;
+ghost use Rattle.coding.specs.Positions as Po;
 ghost use Rattle.coding.specs.Schema as Sc;
 ghost use Rattle.coding.specs.Step as T;
 ghost use Rattle.coding.specs.Walk as W;
@@ -78,12 +79,12 @@ fn reader_of(b: &[u8], dir: &[u16], m: &[u8], f: Found, o: usize) -> Found
     }
 }
 
-// The list that a reader goes over, or why there is none, by a schema that was judged before.
-pub fn reader_by(b: &[u8], dir: &[u16], m: &[u8], path: &[u32], o: usize) -> Found
-    requires { ⌜ AcceptedUnder o (now b) (now dir) ⌝ }
+// The list that a reader goes over, or why there is none, by a schema and its table of positions that were judged before.
+pub fn reader_by(b: &[u8], rows: &[u8], dir: &[u16], m: &[u8], path: &[u32], o: usize) -> Found
+    requires { ⌜ (AcceptedUnder o (now b) (now dir)) × (now rows ≡ Po.positionsOf o (now b)) ⌝ }
     ensures { λ r. ⌜ (r ≡ F.readerStart o (now (b .entry)) (now (m .entry)) (now (path .entry))) × (FoundIn o (now (b .entry)) (now (m .entry)) r) × Reads r ⌝ }
 {
-    let f = field_path::found_by(b, dir, m, path, o);
+    let f = field_path::found_by(b, rows, dir, m, path, o);
     reader_of(b, dir, m, f, o)
 }
 
@@ -252,26 +253,34 @@ pub fn reader_next(n: usize, j: usize) -> usize
     j
 }
 
-// The step at element j, by a schema that was judged before.
-fn step_by(b: &[u8], dir: &[u16], m: &[u8], path: &[u32], j: usize, o: usize) -> ListStep
-    requires { ⌜ AcceptedUnder o (now b) (now dir) ⌝ }
+// The step at element j, by a schema and its table of positions that were judged before.
+fn step_by(
+    b: &[u8],
+    rows: &[u8],
+    dir: &[u16],
+    m: &[u8],
+    path: &[u32],
+    j: usize,
+    o: usize,
+) -> ListStep
+    requires { ⌜ (AcceptedUnder o (now b) (now dir)) × (now rows ≡ Po.positionsOf o (now b)) ⌝ }
     ensures { λ r. ⌜ (r .answer ≡ F.readerGives o (now (b .entry)) (now (m .entry)) (now (path .entry)) j) × (r .next ≡ F.readerNext (F.readerCount o (now (b .entry)) (now (m .entry)) (now (path .entry))) j) ⌝ }
 {
-    let list = reader_by(b, dir, m, path, o);
+    let list = reader_by(b, rows, dir, m, path, o);
     ListStep {
         answer: step_answer(b, dir, m, list, j, o),
         next: reader_next(list_count(list), j),
     }
 }
 
-// The step at element j of the list that a path leads to, of any message by any schema. The reader moves on, refused or not; after
-// the last element, and where there is no list, it stays.
-pub fn step(b: &[u8], m: &[u8], path: &[u32], j: usize, o: usize) -> ListStep
-    ensures { λ r. ⌜ (r .answer ≡ F.readerGives o (now (b .entry)) (now (m .entry)) (now (path .entry)) j) × (r .next ≡ F.readerNext (F.readerCount o (now (b .entry)) (now (m .entry)) (now (path .entry))) j) ⌝ }
+// The step at element j of the list that a path leads to, of any message by any schema with any table of
+// positions. The reader moves on, refused or not; after the last element, and where there is no list, it stays.
+pub fn step(b: &[u8], rows: &[u8], m: &[u8], path: &[u32], j: usize, o: usize) -> ListStep
+    ensures { λ r. ⌜ (r .answer ≡ F.readerGives o (Po.withTable o (now (b .entry)) (now (rows .entry))) (now (m .entry)) (now (path .entry)) j) × (r .next ≡ F.readerNext (F.readerCount o (Po.withTable o (now (b .entry)) (now (rows .entry))) (now (m .entry)) (now (path .entry))) j) ⌝ }
 {
     let mut dir: [u16; 384] = [0; 384];
-    if schema_lawful::judge_schema(b, &mut dir, o) {
-        return step_by(b, &dir, m, path, j, o);
+    if positions::judge_schema(b, rows, &mut dir, o) {
+        return step_by(b, rows, &dir, m, path, j, o);
     }
     ListStep {
         answer: field::refused(1, 0),

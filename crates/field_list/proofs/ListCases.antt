@@ -1,12 +1,13 @@
 -- The ways out of many steps of a list reader: what the loop stores, and what a refused reader gives.
 use mathlib.Core.Path.{_≡_, refl, sym, ap, _∙_}
-use mathlib.Core.Bool.{Bool, false}
+use mathlib.Core.Bool.{Bool, true, false}
 use mathlib.Core.List.{List, [], _∷_, _++_, append-assoc}
 use Prim.Native.Nat.{ℕ, zero, suc, _+_, _*_, _-_, _/_, _<_, _≤_}
 use native.Mathlib.Omega.{arith}
 use lib.ListN.{length, set, take, drop, length-append, take-append-drop}
 use lib.Seq.{length-take-le, take-at, drop-append-add, drop-drop, sets-eq}
 use Rattle.coding.specs.Packed as P
+use Rattle.coding.specs.Positions.{withTable}
 use Rattle.coding.specs.Walk as W
 use Rattle.coding.specs.Field as Field
 use Rattle.coding.specs.Field.{caseNumbers, answerCase, stepNumbers, stepsOver, readerNext}
@@ -14,10 +15,10 @@ use Rattle.coding.specs.declared.Found.{Found}
 use Rattle.coding.specs.declared.Answer.{Answer}
 use Rattle.coding.specs.declared.Case.{Case}
 use Rattle.coding.specs.declared.Answer.the-variants as A
-use Rattle.schema.specs.Directory.{Judged}
+use Rattle.positions.specs.Lent.{lent-is}
+use Rattle.positions.specs.Rows.{TableJudged}
 use Rattle.field_list.specs.Stepping.{always, stepsLeft}
-use Rattle.field_element.proofs.ReaderCases.{gives-unlawful}
-use Rattle.field_element.proofs.StepCases.{count-unlawful, next-none}
+use Rattle.field_element.proofs.StepCases.{answer-unlawful, count-unlawful, next-none}
 
 -- ---- the loop
 -- what stands before a store's end and behind it
@@ -123,10 +124,17 @@ unfolding Field.readerOver
 over-refused o b m path q j e none out =
     same-over (Field.readerGives o b m path) q j e out ∙ ap (λ (n : ℕ). stepsOver (Field.readerGives o b m path) n j out) none
 
-pub over-unlawful : (o : ℕ) (b dir m path : List ℕ) (t : Bool) → Judged o b dir t → t ≡ false → (j : ℕ) (out out′ : List ℕ) (q : Answer)
-    → q ≡ A.Refused (W.refusal 1 0) → out′ ≡ stepsOver (always q) 0 0 out → out′ ≡ Field.readerOver o b m path j out
-over-unlawful o b dir m path t u f j out out′ q eq h =
-    h ∙ over-refused o b m path q j (eq ∙ gives-unlawful o b dir m path t u f j) (count-unlawful o b dir m path t u f) out
+-- of a schema with the table that was handed in
+module _ (o : ℕ) (b rows dir m path : List ℕ) (t : Bool) (u : TableJudged o b rows dir t) (j : ℕ) (out out′ : List ℕ) where
+  pub over-lent : t ≡ true → out′ ≡ Field.readerOver o b m path j out → out′ ≡ Field.readerOver o (withTable o b rows) m path j out
+  over-lent f e = lent-is o b rows dir t u f (λ (s : List ℕ). Field.readerOver o s m path j out) out′ e
+
+  pub over-unlawful : t ≡ false → (q : Answer) → q ≡ A.Refused (W.refusal 1 0) → out′ ≡ stepsOver (always q) 0 0 out
+      → out′ ≡ Field.readerOver o (withTable o b rows) m path j out
+  over-unlawful f q eq h =
+      h
+      ∙ over-refused o (withTable o b rows) m path q j (answer-unlawful o b rows dir m path t u f j q eq)
+      (count-unlawful o b rows dir m path t u f) out
 
 -- a reader that has its list, or a refusal that its steps give
 module _ (o : ℕ) (b m path : List ℕ) (list : Found) (el : list ≡ Field.readerStart o b m path) where

@@ -8,6 +8,7 @@ ghost use lib.ListN.{length, take, drop};
 ghost use mathlib.Core.List.{_++_};
 ghost use Rattle.coding.specs.Field as F;
 ghost use Rattle.coding.specs.Packed as P;
+ghost use Rattle.coding.specs.Positions as Po;
 ghost use Rattle.schema.specs.Directory.{Accepted, AcceptedUnder};
 ghost use Rattle.field_arrival.specs.Within.{FoundIn};
 ghost use Rattle.field_element.specs.Listed.{Reads};
@@ -55,9 +56,10 @@ fn put_steps(b: &[u8], dir: &[u16], m: &[u8], list: Found, from: usize, out: &mu
     }
 }
 
-// Many steps of a list reader, by a schema that was judged before.
+// Many steps of a list reader, by a schema and its table of positions that were judged before.
 fn list_by(
     b: &[u8],
+    rows: &[u8],
     dir: &[u16],
     m: &[u8],
     path: &[u32],
@@ -65,24 +67,32 @@ fn list_by(
     out: &mut [u64],
     o: usize,
 ) -> usize
-    requires { ⌜ AcceptedUnder o (now b) (now dir) ⌝ }
+    requires { ⌜ (AcceptedUnder o (now b) (now dir)) × (now rows ≡ Po.positionsOf o (now b)) ⌝ }
     ensures { λ r. ⌜ r ≡ F.readerCount o (now (b .entry)) (now (m .entry)) (now (path .entry)) ⌝ }
     ensures { λ _. ⌜ now (out .exit) ≡ F.readerOver o (now (b .entry)) (now (m .entry)) (now (path .entry)) from (now (out .entry)) ⌝ }
 {
-    let list = field_element::reader_by(b, dir, m, path, o);
+    let list = field_element::reader_by(b, rows, dir, m, path, o);
     put_steps(b, dir, m, list, from, out, o);
     field_element::list_count(list)
 }
 
-// Many steps of a list reader, of any message by any schema: from an element on, the case and the three numbers of each step,
-// as many as the output has room for. Answers how many elements the list has.
-pub fn read_list(b: &[u8], m: &[u8], path: &[u32], from: usize, out: &mut [u64], o: usize) -> usize
-    ensures { λ r. ⌜ r ≡ F.readerCount o (now (b .entry)) (now (m .entry)) (now (path .entry)) ⌝ }
-    ensures { λ _. ⌜ now (out .exit) ≡ F.readerOver o (now (b .entry)) (now (m .entry)) (now (path .entry)) from (now (out .entry)) ⌝ }
+// Many steps of a list reader, of any message by any schema with any table of positions: from an element on, the case and the three
+// numbers of each step, as many as the output has room for. Answers how many elements the list has.
+pub fn read_list(
+    b: &[u8],
+    rows: &[u8],
+    m: &[u8],
+    path: &[u32],
+    from: usize,
+    out: &mut [u64],
+    o: usize,
+) -> usize
+    ensures { λ r. ⌜ r ≡ F.readerCount o (Po.withTable o (now (b .entry)) (now (rows .entry))) (now (m .entry)) (now (path .entry)) ⌝ }
+    ensures { λ _. ⌜ now (out .exit) ≡ F.readerOver o (Po.withTable o (now (b .entry)) (now (rows .entry))) (now (m .entry)) (now (path .entry)) from (now (out .entry)) ⌝ }
 {
     let mut dir: [u16; 384] = [0; 384];
-    if schema_lawful::judge_schema(b, &mut dir, o) {
-        return list_by(b, &dir, m, path, from, out, o);
+    if positions::judge_schema(b, rows, &mut dir, o) {
+        return list_by(b, rows, &dir, m, path, from, out, o);
     }
     put_same(out, field::refused(1, 0));
     0

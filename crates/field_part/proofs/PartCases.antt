@@ -23,8 +23,6 @@ use Rattle.coding.specs.declared.Object.the-variants as O
 use Rattle.coding.specs.declared.Kind.{Kind}
 use Rattle.coding.specs.declared.Kind.the-variants.{OfFlat}
 use Rattle.coding.specs.declared.Member.{Member}
-use Rattle.coding.specs.declared.Cursor.{Cursor}
-use Rattle.coding.specs.declared.Slot.{Slot}
 use Rattle.coding.specs.declared.Step.{Step}
 use Rattle.coding.specs.declared.Step.the-variants as St
 use Rattle.coding.specs.declared.Found.{Found}
@@ -33,14 +31,11 @@ use Rattle.coding.specs.declared.Refusal.{Refusal}
 use Rattle.laws.specs.Sound.{FlatSound, ObjectSound}
 use Rattle.laws.specs.SoundAt.{struct-index}
 use Rattle.laws.specs.Parsed.{structs-length}
-use Rattle.message_layout.specs.Bounds.{Laid, Stands}
 use Rattle.message_layout.proofs.Booleans.{flat-weaker, field-sound}
 use Rattle.schema.specs.Directory.{Accepted, accepted-sound}
-use Rattle.message_step.specs.Lead.{Stepped}
 use Rattle.wire.specs.Numbers.{Number}
 use Rattle.field_arrival.specs.Within.{Readable, StepWithin, FoundWithin}
-use Rattle.message_object.proofs.OpenCases.{member-sound-of}
-use Rattle.field_part.proofs.StepsWithin.{total-append, member-within, element-within, field-within}
+use Rattle.field_part.proofs.StepsWithin.{total-append, element-within, field-within}
 
 -- ---- a struct's member
 module _ (m : List ℕ) (k : Flat) (at : ℕ) where
@@ -121,58 +116,7 @@ module _ (o : ℕ) (S : Schema) (m : List ℕ) (s at holder j n : ℕ) (en : n �
   unfolding Field.structPart
   struct-there h k ek step et e = simp (← en, lt-ltb _ _ h, ← ek, ← et) e
 
--- ---- the cursor at a member
-module _ (o : ℕ) (S : Schema) (t : ℕ) where
-  after-append : (rs qs : List Member) (c : Cursor) → L.afterMembers o S (rs ++ qs) c ≡ L.afterMembers o S qs (L.afterMembers o S rs c)
-  unfolding L.afterMembers
-  after-append [] qs c = refl
-  after-append (r ∷ rs) qs c = after-append rs qs (L.afterMember o S r c)
-
-  pub cursor-start : (c : Cursor) → c ≡ L.begin → c ≡ L.afterMembers o S (take 0 (Sc.tableOf S t .members)) L.begin
-  unfolding L.afterMembers
-  cursor-start c e = e
-
-  pub cursor-turn : (c : Cursor) (i : ℕ) → c ≡ L.afterMembers o S (take i (Sc.tableOf S t .members)) L.begin → (j : ℕ) → i < j
-      → j < length (Sc.tableOf S t .members) → (q : Cursor) → q ≡ L.afterMember o S (Sc.memberOf S t i) c
-      → q ≡ L.afterMembers o S (take (i + 1) (Sc.tableOf S t .members)) L.begin
-  unfolding L.afterMembers Sc.memberOf
-  cursor-turn c i e j l h q eq =
-      let rs = Sc.tableOf S t .members in
-      let p : take (i + 1) rs ≡ take i rs ++ Sc.memberOf S t i ∷ [] = ap (λ (x : ℕ). take x rs) (add-one i) ∙ take-suc rs i Sc.plainBool (omega arith) in
-      eq ∙ ap (L.afterMember o S (Sc.memberOf S t i)) e
-      ∙ sym (ap (λ (xs : List Member). L.afterMembers o S xs L.begin) p ∙ after-append (take i rs) (Sc.memberOf S t i ∷ []) L.begin)
-
-module _ (o : ℕ) (S : Schema) (t i : ℕ) (c : Cursor) (r : Member) (er : r ≡ Sc.memberOf S t i) (s : Slot) (next : Cursor)
-    (h : Stands (L.memberSlot o S r c) (L.afterMember o S r c) (c .end + 1) s next) where
-  pub after-is : next ≡ L.afterMember o S (Sc.memberOf S t i) c
-  after-is = h .next-is ∙ ap (λ (x : Member). L.afterMember o S x c) er
-
-pub after-laid : (o : ℕ) (S : Schema) (i : ℕ) (c : Cursor) → Laid (4097 * i) c → (r : Member) (s : Slot) (next : Cursor)
-    → Stands (L.memberSlot o S r c) (L.afterMember o S r c) (c .end + 1) s next → Laid (4097 * (i + 1)) next
-after-laid o S i c l r s next h =
-    let p = l .end in
-    let q = h .laid in
-    let g = q .end in
-    record { end = omega arith; byte = q .byte; bit = q .bit }
-
 -- ---- a table's member
-module _ (o : ℕ) (S : Schema) (m : List ℕ) (t start n j : ℕ) (x : Member) (c : Cursor)
-    (ec : c ≡ L.afterMembers o S (take j (Sc.tableOf S t .members)) L.begin) (step : Step) (next : Cursor)
-    (h : Stepped (T.memberStep o S m start n c x) (L.afterMember o S x c) (c .end) step next) where
-  pub member-at-is : step ≡ T.memberStep o S m start n (L.afterMembers o S (take j (Sc.tableOf S t .members)) L.begin) x
-  member-at-is = h .step-is ∙ ap (λ (k : Cursor). T.memberStep o S m start n k x) ec
-
-pub member-at-within : (o : ℕ) (b dir m : List ℕ) → o ≤ 6 → Accepted b dir → Readable m → (t start n j : ℕ) → start + n ≤ length m
-    → j < length (Sc.tableOf (P.parse b) t .members) → (x : Member) → x ≡ Sc.memberOf (P.parse b) t j
-    → (c : Cursor) (step : Step) (next : Cursor) → Stepped (T.memberStep o (P.parse b) m start n c x) (L.afterMember o (P.parse b) x c) (c .end) step next
-    → StepWithin (P.parse b) m step
-member-at-within o b dir m most a r t start n j h g x ex c step next q =
-    subst (StepWithin (P.parse b) m) (sym (q .step-is))
-    (member-within (P.parse b) (accepted-sound b dir a) m r o most x (member-sound-of b dir a t j x ex g) start n c h)
-
-pub cursor-low : (c : Cursor) (j : ℕ) → Laid (4097 * j) c → j < 256 → c .end < 2 ^ 58
-cursor-low c j l h = omega (arith, l .end)
-
 module _ (o : ℕ) (S : Schema) (m : List ℕ) (t at start n d j count : ℕ) (ec : count ≡ length (Sc.tableOf S t .members)) (r : Found) where
   pub table-none : count ≤ j → r ≡ Fd.Refused (W.refusal 15 at) → r ≡ Field.objectPart o S m (O.Table t) at start n d j
   unfolding Field.objectPart Field.noPart
@@ -265,18 +209,10 @@ module _ (o : ℕ) (S : Schema) (m : List ℕ) (f : Found) (within : FoundWithin
   pub object-place : (ob : Object) (at start n d : ℕ) → f ≡ Fd.Object ob at start n d → at < 2 ^ 60
   object-place ob at start n d e = subst (FoundWithin o S m) e within .3
 
--- ---- all members before member j
+-- ---- all of a struct's members before member j
 pub size-done : (S : Schema) (s size i j : ℕ) → size ≡ total (structSize S) (take i (Sc.structOf S s)) → i ≤ j → j ≤ i
     → size ≡ total (structSize S) (take j (Sc.structOf S s))
 size-done S s size i j e h l = let z : i ≡ j = omega arith in e ∙ ap (λ (x : ℕ). total (structSize S) (take x (Sc.structOf S s))) z
-
-pub cursor-done : (o : ℕ) (S : Schema) (t : ℕ) (c : Cursor) (i j : ℕ) → c ≡ L.afterMembers o S (take i (Sc.tableOf S t .members)) L.begin → i ≤ j → j ≤ i
-    → c ≡ L.afterMembers o S (take j (Sc.tableOf S t .members)) L.begin
-cursor-done o S t c i j e h l =
-    let z : i ≡ j = omega arith in e ∙ ap (λ (x : ℕ). L.afterMembers o S (take x (Sc.tableOf S t .members)) L.begin) z
-
-pub laid-done : (c : Cursor) (i j : ℕ) → Laid (4097 * i) c → i ≤ j → j ≤ i → Laid (4097 * j) c
-laid-done c i j h l g = let z : i ≡ j = omega arith in subst (λ (x : ℕ). Laid (4097 * x) c) z h
 
 pub struct-counted-of : (o : ℕ) (b m : List ℕ) (f : Found) → FoundWithin o (P.parse b) m f → (i at holder s : ℕ) → f ≡ Fd.Struct i at holder → s ≡ i
     → s < P.structCount b

@@ -24,6 +24,7 @@ use Rattle.coding.specs.declared.Kind.the-variants.{OfFlat, OfObject, OfUnion}
 use Rattle.coding.specs.declared.Member.{Member}
 use Rattle.coding.specs.declared.Cursor.{Cursor}
 use Rattle.coding.specs.declared.Slot.{Slot}
+use Rattle.coding.specs.declared.Placement.{Placement}
 use Rattle.coding.specs.declared.Place.the-variants.{ByOffset, InPlace}
 use Rattle.coding.specs.declared.Step.{Step}
 use Rattle.coding.specs.declared.Step.the-variants as St
@@ -108,11 +109,12 @@ module _ (S : Schema) (sound : Sound S) (m : List ℕ) (readable : Readable m) w
     value-within (OfUnion u) s none inplace tail at bit h l =
         union-within u inplace tail (le m at 2) (le m (at + 2) o) h (offset-small (at + 2))
 
-    pub member-within : (r : Member) → MemberSound S r → (start n : ℕ) (c : Cursor) → start + n ≤ length m
-        → StepWithin S m (T.memberStep o S m start n c r)
-    unfolding T.memberStep T.placedStep T.flagged L.placementOf L.memberSlot
-    member-within r s start n c h =
-        tested-within (T.placedStep o S m start n (L.placementOf o S r c) r)
+    -- a member by a placement of as many bytes as it takes
+    pub placed-within : (r : Member) → MemberSound S r → (start n : ℕ) (p : Placement) → p .value .size ≡ L.width o S (r .kind) → start + n ≤ length m
+        → StepWithin S m (T.structTested S m (T.placedStep o S m start n p r))
+    unfolding T.placedStep T.flagged
+    placed-within r s start n p z h =
+        tested-within (T.placedStep o S m start n p r)
         (pick-holds (StepWithin S m) (L.hasFlag r) (T.flagged m start n flag slot here) (T.inside n slot St.Absent here)
         (λ e. pick-holds (StepWithin S m) (leb n (flag .at)) St.Absent
         (pick (eqb (bitAt m (start + flag .at) (flag .bit)) 1) (T.inside n slot (St.Refused 8) here) (T.inside n slot St.Absent St.Absent)) (λ f. tt)
@@ -121,19 +123,23 @@ module _ (S : Schema) (sound : Sound S) (m : List ℕ) (readable : Readable m) w
         (λ e. inside-within n slot St.Absent here tt there))
       where
         slot : Slot
-        slot = L.memberSlot o S r c
+        slot = p .value
 
         flag : Slot
-        flag = L.placementOf o S r c .flag
+        flag = p .flag
 
         here : Step
         here = T.valueStep o S m (r .kind) (r .optional) (r .inplace) (start + n) (start + slot .at) (slot .bit)
 
         there : slot .at + slot .size ≤ n → StepWithin S m here
         there l =
-            let z : slot .size ≡ L.width o S (r .kind) = slot-size o S (r .kind) (L.afterFlag r c) in
             let g = readable .size in
             value-within (r .kind) (s .kind) (r .optional) (r .inplace) (start + n) (start + slot .at) (slot .bit) (omega arith) (omega arith)
+
+    pub member-within : (r : Member) → MemberSound S r → (start n : ℕ) (c : Cursor) → start + n ≤ length m
+        → StepWithin S m (T.memberStep o S m start n c r)
+    unfolding T.memberStep L.placementOf L.memberSlot
+    member-within r s start n c h = placed-within r s start n (L.placementOf o S r c) (slot-size o S (r .kind) (L.afterFlag r c)) h
 
     pub element-within : (k : Kind) → KindSound S k → (start n i : ℕ) → start + T.elementsSize o S k n ≤ length m → i < n
         → StepWithin S m (T.elementStep o S m k start i)

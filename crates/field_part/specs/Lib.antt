@@ -1,2 +1,2 @@
--- What stands before a member.
+-- What stands before a struct's member.
 pub mod Before

@@ -1,11 +1,11 @@
 // A part of what a path has come to: a member of a struct or of a table, an element of a list. Only this part is judged.
-use coding::Cursor;
 use coding::Flat;
 use coding::Found;
 use coding::Kind;
 use coding::Member;
 use coding::Object;
 use coding::Place;
+use coding::Placement;
 use coding::Step;
 use field_arrival::Content;
 use field_arrival::Part;
@@ -15,17 +15,18 @@ ghost use lib.ListN.{length};
 ghost use Rattle.coding.specs.Field as F;
 ghost use Rattle.coding.specs.Layout as L;
 ghost use Rattle.coding.specs.Packed as P;
+ghost use Rattle.coding.specs.Positions as Po;
 ghost use Rattle.coding.specs.Schema as Sc;
 ghost use Rattle.coding.specs.Step as T;
 ghost use Rattle.coding.specs.Structs as S;
 ghost use Rattle.coding.specs.Walk as W;
-ghost use Rattle.laws.specs.Sound.{FlatSound, ObjectSound};
-ghost use Rattle.message_layout.specs.Bounds.{Laid};
+ghost use Rattle.laws.specs.Sound.{FlatSound, ObjectSound, MemberSound};
+ghost use Rattle.message_step.specs.Lead.{Sits};
 ghost use Rattle.schema.specs.Directory.{Accepted};
 ghost use Rattle.wire.specs.Sizes.{Width};
 ghost use Rattle.field_arrival.specs.Within.{Readable, StepIn, FoundIn};
 ghost use Rattle.field_arrival.specs.Parts.{objectPartBy};
-ghost use Rattle.field_part.specs.Before.{fieldPlace, cursorAt};
+ghost use Rattle.field_part.specs.Before.{fieldPlace};
 
 // ---- a struct's members
 // Where a struct of an index stands.
@@ -101,60 +102,36 @@ fn struct_part(
 }
 
 // ---- members and elements
-// The cursor behind member i of table t.
-fn after_member(b: &[u8], dir: &[u16], t: usize, i: usize, c: Cursor, o: usize) -> Cursor
-    requires { ⌜ (Accepted (now b) (now dir)) × (Width o) × (t < P.tableCount (now b)) × (i < length (Sc.tableOf (P.parse (now b)) t .members)) × (i < 256) × (Laid (4097 * i) c) ⌝ }
-    ensures { λ r. ⌜ (r ≡ L.afterMember o (P.parse (now (b .entry))) (Sc.memberOf (P.parse (now (b .entry))) t i) c) × Laid (4097 * (i + 1)) r ⌝ }
+// What member r of a table holds, by its placement.
+fn member_at(b: &[u8], dir: &[u16], m: &[u8], c: Content, p: Placement, r: Member, o: usize) -> Step
+    requires { ⌜ (Accepted (now b) (now dir)) × (Width o) × (Readable (now m)) × (c .start + c .length ≤ length (now m)) ⌝ }
+    requires { ⌜ (MemberSound (P.parse (now b)) r) × Sits (L.width o (P.parse (now b)) (r .kind)) p ⌝ }
+    ensures { λ q. ⌜ (q ≡ T.structTested (P.parse (now (b .entry))) (now (m .entry)) (T.placedStep o (P.parse (now (b .entry))) (now (m .entry)) (c .start) (c .length) p r)) × StepIn (now (b .entry)) (now (m .entry)) q ⌝ }
 {
-    let r = schema::member(b, dir, t, i);
-    let p = message_layout::place_member(b, dir, r, c, o);
-    p.next
+    let found = message_step::placed_step(b, dir, m, c.start, c.length, p, r, o);
+    message_step::struct_tested(b, dir, m, found)
 }
 
-// The cursor at member j of table t.
-fn cursor_at(b: &[u8], dir: &[u16], t: usize, j: usize, o: usize) -> Cursor
-    requires { ⌜ (Accepted (now b) (now dir)) × (Width o) × (t < P.tableCount (now b)) × (j < length (Sc.tableOf (P.parse (now b)) t .members)) × (j < 256) ⌝ }
-    ensures { λ r. ⌜ (r ≡ cursorAt o (now (b .entry)) t j) × Laid (4097 * j) r ⌝ }
-{
-    let mut c = message_layout::begin();
-    let mut i: usize = 0;
-    while i < j {
-        c = after_member(b, dir, t, i, c, o);
-        i += 1;
-    }
-    c
-}
-
-// What member j, which is r, of table t holds.
-fn member_at(
+// Member j of table t, by its row of the table of positions: the members before it are not looked at.
+fn table_part(
     b: &[u8],
+    rows: &[u8],
     dir: &[u16],
     m: &[u8],
     t: usize,
     c: Content,
     j: usize,
-    r: Member,
     o: usize,
-) -> Step
-    requires { ⌜ (Accepted (now b) (now dir)) × (Width o) × (Readable (now m)) × (t < P.tableCount (now b)) × (c .start + c .length ≤ length (now m)) ⌝ }
-    requires { ⌜ (j < length (Sc.tableOf (P.parse (now b)) t .members)) × (j < 256) × (r ≡ Sc.memberOf (P.parse (now b)) t j) ⌝ }
-    ensures { λ q. ⌜ (q ≡ T.memberStep o (P.parse (now (b .entry))) (now (m .entry)) (c .start) (c .length) (cursorAt o (now (b .entry)) t j) r) × StepIn (now (b .entry)) (now (m .entry)) q ⌝ }
-{
-    let at = cursor_at(b, dir, t, j, o);
-    let q = message_step::member_step(b, dir, m, c.start, c.length, at, r, o);
-    q.step
-}
-
-// Member j of table t.
-fn table_part(b: &[u8], dir: &[u16], m: &[u8], t: usize, c: Content, j: usize, o: usize) -> Found
-    requires { ⌜ (Accepted (now b) (now dir)) × (Width o) × (Readable (now m)) × (t < P.tableCount (now b)) × (c .start + c .length ≤ length (now m)) ⌝ }
+) -> Found
+    requires { ⌜ (Accepted (now b) (now dir)) × (Width o) × (now rows ≡ Po.positionsOf o (now b)) × (Readable (now m)) × (t < P.tableCount (now b)) × (c .start + c .length ≤ length (now m)) ⌝ }
     ensures { λ r. ⌜ r ≡ objectPartBy o (now (b .entry)) (now (m .entry)) (Object.Table t) c j ⌝ }
 {
     if schema::member_count(b, dir, t) <= j {
         return field_arrival::refuse(15, c.place);
     }
     let r = schema::member(b, dir, t, j);
-    let step = member_at(b, dir, m, t, c, j, r, o);
+    let p = positions::placement_at(b, dir, rows, t, j, o);
+    let step = member_at(b, dir, m, c, p, r, o);
     let kind = r.kind;
     let part = Part {
         holder: c.place,
@@ -201,8 +178,17 @@ pub fn direct_part(b: &[u8], dir: &[u16], m: &[u8], t: u8, c: Content, j: usize,
 }
 
 // Part j of an object: a text and bytes have none.
-fn object_part(b: &[u8], dir: &[u16], m: &[u8], ob: Object, c: Content, j: usize, o: usize) -> Found
-    requires { ⌜ (Accepted (now b) (now dir)) × (Width o) × (Readable (now m)) × (ObjectSound (P.parse (now b)) ob) × (c .place < 2 ^ 60) ⌝ }
+fn object_part(
+    b: &[u8],
+    rows: &[u8],
+    dir: &[u16],
+    m: &[u8],
+    ob: Object,
+    c: Content,
+    j: usize,
+    o: usize,
+) -> Found
+    requires { ⌜ (Accepted (now b) (now dir)) × (Width o) × (now rows ≡ Po.positionsOf o (now b)) × (Readable (now m)) × (ObjectSound (P.parse (now b)) ob) × (c .place < 2 ^ 60) ⌝ }
     requires { ⌜ c .start + W.contentSize o (P.parse (now b)) (now m) ob (c .place) (c .length) ≤ length (now m) ⌝ }
     ensures { λ r. ⌜ r ≡ objectPartBy o (now (b .entry)) (now (m .entry)) ob c j ⌝ }
 {
@@ -210,15 +196,15 @@ fn object_part(b: &[u8], dir: &[u16], m: &[u8], ob: Object, c: Content, j: usize
         Object::Text => field_arrival::refuse(15, c.place),
         Object::Bytes => field_arrival::refuse(15, c.place),
         Object::List(i) => list_part(b, dir, m, wire::index(i), c, j, o),
-        Object::Table(t) => table_part(b, dir, m, wire::index(t), c, j, o),
+        Object::Table(t) => table_part(b, rows, dir, m, wire::index(t), c, j, o),
         Object::DirectList(t) => direct_part(b, dir, m, t, c, j, o),
     }
 }
 
 // ---- one number of a path
 // What a path has come to with one number more, from what was found before.
-pub fn part_of(b: &[u8], dir: &[u16], m: &[u8], f: Found, j: usize, o: usize) -> Found
-    requires { ⌜ (Accepted (now b) (now dir)) × (Width o) × (Readable (now m)) × (FoundIn o (now b) (now m) f) ⌝ }
+pub fn part_of(b: &[u8], rows: &[u8], dir: &[u16], m: &[u8], f: Found, j: usize, o: usize) -> Found
+    requires { ⌜ (Accepted (now b) (now dir)) × (Width o) × (now rows ≡ Po.positionsOf o (now b)) × (Readable (now m)) × (FoundIn o (now b) (now m) f) ⌝ }
     ensures { λ r. ⌜ r ≡ F.partOf o (P.parse (now (b .entry))) (now (m .entry)) f j ⌝ }
 {
     match f {
@@ -240,7 +226,7 @@ pub fn part_of(b: &[u8], dir: &[u16], m: &[u8], f: Found, j: usize, o: usize) ->
                 length,
                 left,
             };
-            object_part(b, dir, m, ob, c, j, o)
+            object_part(b, rows, dir, m, ob, c, j, o)
         }
     }
 }

@@ -20,7 +20,11 @@ use Rattle.coding.specs.declared.Place.{Place}
 use Rattle.coding.specs.declared.Found.{Found}
 use Rattle.coding.specs.declared.Found.the-variants as Fd
 use Rattle.laws.specs.Lists.{both-left, both-right}
-use Rattle.schema.specs.Directory.{AcceptedUnder, Judged}
+use Rattle.coding.specs.Lawful.{lawful}
+use Rattle.coding.specs.Positions.{withTable}
+use Rattle.positions.specs.Lent.{lent-is, lent-refused}
+use Rattle.positions.specs.Rows.{TableJudged}
+use Rattle.schema.specs.Directory.{AcceptedUnder}
 use Rattle.field_arrival.specs.Within.{FoundWithin}
 
 -- ---- the numbers of a path, from number i on
@@ -86,11 +90,14 @@ module _ (o : ℕ) (m : List ℕ) (s : Bool) (es : s ≡ W.sizeOk o m) (g : s �
 pub refused-within : (o : ℕ) (S : Schema) (m : List ℕ) (n at : ℕ) (r : Found) → r ≡ Fd.Refused (W.refusal n at) → FoundWithin o S m r
 refused-within o S m n at r e = rw e tt
 
--- ---- the schema
-pub unlawful : (o : ℕ) (b dir m path : List ℕ) (t : Bool) → Judged o b dir t → t ≡ false → Field.fieldFound o b m path ≡ Fd.Refused (W.refusal 1 0)
+-- ---- the schema, with the table that was handed in
+pub unlawful : (o : ℕ) (b m path : List ℕ) → lawful o b ≡ false → Field.fieldFound o b m path ≡ Fd.Refused (W.refusal 1 0)
 unfolding Field.fieldFound Field.before
-unlawful o b dir m path t j f = simp (← (j .is), f)
+unlawful o b m path f = simp f
 
-pub found-unlawful : (o : ℕ) (b dir m path : List ℕ) (t : Bool) → Judged o b dir t → t ≡ false → (r : Found) → r ≡ Fd.Refused (W.refusal 1 0)
-    → r ≡ Field.fieldFound o b m path
-found-unlawful o b dir m path t j f r e = e ∙ sym (unlawful o b dir m path t j f)
+module _ (o : ℕ) (b rows dir m path : List ℕ) (t : Bool) (j : TableJudged o b rows dir t) (r : Found) where
+  pub found-unlawful : t ≡ false → r ≡ Fd.Refused (W.refusal 1 0) → r ≡ Field.fieldFound o (withTable o b rows) m path
+  found-unlawful f e = e ∙ sym (unlawful o (withTable o b rows) m path (lent-refused o b rows dir t j f))
+
+  pub found-lent : t ≡ true → r ≡ Field.fieldFound o b m path → r ≡ Field.fieldFound o (withTable o b rows) m path
+  found-lent f e = lent-is o b rows dir t j f (λ (s : List ℕ). Field.fieldFound o s m path) r e

@@ -12,6 +12,7 @@ use Rattle.coding.specs.Bytes.{largest, deepest}
 use Rattle.laws.specs.Lists.{both-left, both-right}
 use Rattle.coding.specs.Schema.{Schema}
 use Rattle.coding.specs.Packed as P
+use Rattle.coding.specs.Positions.{withTable}
 use Rattle.coding.specs.Walk as W
 use Rattle.coding.specs.declared.Object.{Object}
 use Rattle.coding.specs.declared.Object.the-variants as O
@@ -20,7 +21,9 @@ use Rattle.coding.specs.declared.Budget.{Budget}
 use Rattle.coding.specs.declared.Verdict.{Verdict}
 use Rattle.coding.specs.declared.Walked.{Walked}
 use Rattle.coding.specs.declared.Walked.the-variants.{Going, Refused}
-use Rattle.schema.specs.Directory.{AcceptedUnder, Judged}
+use Rattle.schema.specs.Directory.{AcceptedUnder}
+use Rattle.positions.specs.Rows.{TableJudged}
+use Rattle.positions.specs.Lent.{lent-is, lent-refused}
 use Rattle.outcome.specs.declared.Outcome.{Outcome}
 use Rattle.outcome.specs.Answers.{walkedOf, leftOf}
 use Rattle.outcome.specs.Left as Left
@@ -84,9 +87,14 @@ module _ (o : ℕ) (b dir m : List ℕ) (a : AcceptedUnder o b dir) (budget : Bu
     unfolding W.verdict
     verdict-other f e = simp (a .lawful, ← eq, h, ← et, f) e
 
-pub verdict-unlawful : (o : ℕ) (b dir m : List ℕ) (budget : Budget) (t : Bool) → Judged o b dir t → t ≡ false → (r : Verdict) → r ≡ W.early 1 → r ≡ W.verdict o b m budget
-unfolding W.verdict
-verdict-unlawful o b dir m budget t j f r e = simp (← (j .is), f) e
+-- a table that was handed in with the schema
+module _ (o : ℕ) (b rows dir m : List ℕ) (budget : Budget) (t : Bool) (j : TableJudged o b rows dir t) where
+  pub verdict-lent : t ≡ true → (r : Verdict) → r ≡ W.verdict o b m budget → r ≡ W.verdict o (withTable o b rows) m budget
+  verdict-lent f r e = lent-is o b rows dir t j f (λ (s : List ℕ). W.verdict o s m budget) r e
+
+  pub verdict-unlawful : t ≡ false → (r : Verdict) → r ≡ W.early 1 → r ≡ W.verdict o (withTable o b rows) m budget
+  unfolding W.verdict
+  verdict-unlawful f r e = simp (lent-refused o b rows dir t j f) e
 
 module _ (w : Outcome) (v c : ℕ) where
   pub verdict-going : w .code ≡ 0

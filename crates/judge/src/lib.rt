@@ -5,6 +5,7 @@ use outcome::Outcome;
 ghost use mathlib.Core.Path.{_≡_};
 ghost use Prim.Native.Nat.{_≤_};
 ghost use Rattle.coding.specs.Packed as P;
+ghost use Rattle.coding.specs.Positions as Po;
 ghost use Rattle.coding.specs.Walk as W;
 ghost use Rattle.schema.specs.Directory.{Accepted, AcceptedUnder};
 ghost use Rattle.outcome.specs.Answers as As;
@@ -73,13 +74,13 @@ pub fn judged(b: &[u8], dir: &[u16], m: &[u8], visits: u32, content: u64, o: usi
     early(2)
 }
 
-// Judges a message by a packed schema under the coding of width o: number, place, member and visits. A width of no coding is
-// refused as an unlawful schema is.
-pub fn judge(b: &[u8], m: &[u8], budget: Budget, o: usize) -> Verdict
-    ensures { λ r. ⌜ r ≡ W.verdict o (now (b .entry)) (now (m .entry)) budget ⌝ }
+// Judges a message by a packed schema, with the schema's table of positions, under the coding of width o: number, place, member,
+// visits and content. A width of no coding and any other table are refused as an unlawful schema is.
+pub fn judge(b: &[u8], rows: &[u8], m: &[u8], budget: Budget, o: usize) -> Verdict
+    ensures { λ r. ⌜ r ≡ W.verdict o (Po.withTable o (now (b .entry)) (now (rows .entry))) (now (m .entry)) budget ⌝ }
 {
     let mut dir: [u16; 384] = [0; 384];
-    if schema_lawful::judge_schema(b, &mut dir, o) {
+    if positions::judge_schema(b, rows, &mut dir, o) {
         return judged(b, &dir, m, budget.visits, budget.content, o);
     }
     early(1)

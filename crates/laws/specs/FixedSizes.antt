@@ -19,7 +19,7 @@ use Rattle.coding.specs.declared.Member.{Member}
 use Rattle.coding.specs.declared.Cursor.{Cursor}
 use Rattle.laws.specs.Sound.{All, DirectSound, FlatSound, KindSound, MemberSound, Sound}
 
-after-bit : (c : Cursor) → afterBit c .end ≤ c .end + 1
+pub after-bit : (c : Cursor) → afterBit c .end ≤ c .end + 1
 unfolding afterBit
 after-bit c = by (ltb (c .bit) 8)
   where
@@ -29,7 +29,7 @@ after-bit c = by (ltb (c .bit) 8)
     by true = omega arith
     by false = omega arith
 
-after-flag : (r : Member) (c : Cursor) → afterFlag r c .end ≤ c .end + 1
+pub after-flag : (r : Member) (c : Cursor) → afterFlag r c .end ≤ c .end + 1
 unfolding afterFlag
 after-flag r c = by (hasFlag r)
   where
@@ -47,7 +47,7 @@ module _ (o : ℕ) (narrow : 2 + o ≤ 4096) (S : Schema) (G : Sound S) where
   flat-narrow (Enumerated n) s = omega arith
   flat-narrow (Struct i) s = G .structs i .size
 
-  kind-narrow : (k : Kind) → KindSound S k → width o S k ≤ 4096
+  pub kind-narrow : (k : Kind) → KindSound S k → width o S k ≤ 4096
   unfolding width
   kind-narrow (OfFlat k) s = flat-narrow k s
   kind-narrow (OfObject ob) s = omega arith
@@ -65,7 +65,7 @@ module _ (o : ℕ) (narrow : 2 + o ≤ 4096) (S : Schema) (G : Sound S) where
   unfolding afterMember
   after-member r s c = omega (arith, after-value (r .kind) (s .kind) (afterFlag r c), after-flag r c)
 
-  after-members : (rs : List Member) → All (MemberSound S) rs → (c : Cursor)
+  pub after-members : (rs : List Member) → All (MemberSound S) rs → (c : Cursor)
       → afterMembers o S rs c .end ≤ c .end + 4097 * length rs
   unfolding afterMembers
   after-members [] s c = omega arith

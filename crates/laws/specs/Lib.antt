@@ -17,3 +17,9 @@ pub mod StructBooleans
 pub mod SoundAt
 pub mod DirectPlaces
 pub mod FixedSizes
+pub mod FlatMaps
+pub mod SameLists
+pub mod PositionRows
+pub mod RowBounds
+pub mod RowReads
+pub mod LentTables

@@ -200,7 +200,7 @@ pub struct Placed {
 }
 
 // Behind the member's flag, if it has one.
-fn after_flag(flag: bool, c: Cursor) -> Cursor
+pub fn after_flag(flag: bool, c: Cursor) -> Cursor
     requires { ⌜ (c .byte ≤ c .end) × (c .bit ≤ 8) × (c .end < 2 ^ 60) ⌝ }
     ensures { λ r. ⌜ (r ≡ pick flag (L.afterBit c) c) × Laid (c .end + 1) r ⌝ }
 {

@@ -12,6 +12,7 @@ use Rattle.coding.specs.Bytes.{u48}
 use Rattle.coding.specs.Lawful.{lawful}
 use Rattle.coding.specs.Walk.{atZero, verdict}
 use Rattle.coding.specs.Message.{Written, refused, message, messageSheet, written, writeRoom, writeOver, writeAnswer, writeOut, readAnswer, readOut}
+use Rattle.coding.specs.Positions.{positionsOf, withTable}
 use Rattle.coding.specs.Moving.{withoutInplaceUnions, clearing, moved}
 use Rattle.coding.specs.declared.Budget.{Budget}
 use Rattle.coding.specs.declared.ReadAnswer.{ReadAnswer}
@@ -23,6 +24,8 @@ use Rattle.demands.specs.Reached.{verdict-walks}
 use Rattle.demands.specs.RoundTrip.{enough}
 use Rattle.demands.specs.Spending.{Affords}
 use Rattle.promises.proofs.Reading.{handed, read-within}
+use Rattle.promises.specs.Words.{TableOf}
+use Rattle.promises.proofs.Tables.{read-own, old-read}
 use Rattle.promises.proofs.Writing.{Refuses, room-length, room-made, made}
 
 -- ---- the cleared schema
@@ -55,13 +58,18 @@ module _ (b out out′ : List ℕ) (a : WriteAnswer) (ea : a ≡ writeRoom (clea
         sym (ap bytesIn (sym is-cleared ∙ e))
 
 -- ---- the whole
-module _ (b m : List ℕ) (schema-bytes : AreBytes b) (message-bytes : AreBytes m) (first : Budget) (sheet sheet′ : List ℕ) (stored : ReadAnswer)
-    (ea : stored ≡ readAnswer 6 b m first sheet) (eo : sheet′ ≡ readOut 6 b m first sheet) (h : stored .verdict .number ≡ 0) where
+module _ (b t m : List ℕ) (schema-bytes : AreBytes b) (message-bytes : AreBytes m) (first : Budget) (sheet sheet′ : List ℕ) (stored : ReadAnswer)
+    (ea : stored ≡ readAnswer 6 (withTable 6 b t) m first sheet) (eo : sheet′ ≡ readOut 6 (withTable 6 b t) m first sheet)
+    (h : stored .verdict .number ≡ 0) where
+  -- the table that was lent is the schema's, since the message was read
+  by-schema : (stored ≡ readAnswer 6 b m first sheet) × (sheet′ ≡ readOut 6 b m first sheet)
+  by-schema = read-own 6 b t m first sheet sheet′ stored ea eo h
+
   sheet-is : take (stored .length) sheet′ ≡ messageSheet 6 b m
-  sheet-is = handed 6 b m first sheet stored sheet′ ea eo h .sheet
+  sheet-is = handed 6 b m first sheet stored sheet′ (by-schema .0) (by-schema .1) h .sheet
 
   accepted : verdict 6 b m first .number ≡ 0
-  accepted = handed 6 b m first sheet stored sheet′ ea eo h .accepted
+  accepted = handed 6 b m first sheet stored sheet′ (by-schema .0) (by-schema .1) h .accepted
 
   -- its schema is lawful
   read-lawful : lawful u48 b ≡ true
@@ -104,7 +112,7 @@ module _ (b m : List ℕ) (schema-bytes : AreBytes b) (message-bytes : AreBytes 
             ap (λ (c : List ℕ). messageSheet 6 c (take (w .length) room′)) (schema-cleared g)
             ∙ reads-back .sheet ∙ sym sheet-is
 
-        pub back-same : (second : Budget) (out out′ : List ℕ) (a : ReadAnswer)
+        back-same : (second : Budget) (out out′ : List ℕ) (a : ReadAnswer)
             → a ≡ readAnswer 6 (take (cleared .length) newer′) (take (w .length) room′) second out
             → out′ ≡ readOut 6 (take (cleared .length) newer′) (take (w .length) room′) second out
             → Affords second (enough 6 (withoutInplaceUnions b) (take (stored .length) sheet′)) → stored .length ≤ length out
@@ -117,7 +125,7 @@ module _ (b m : List ℕ) (schema-bytes : AreBytes b) (message-bytes : AreBytes 
         back-same second out out′ a e f l r =
             let s = sheet-is in
             let k : stored .length ≡ length (messageSheet 6 b m) =
-            sym (length-take-le (stored .length) sheet′ (read-within 6 b m first sheet stored sheet′ ea eo)) ∙ ap length s in
+            sym (length-take-le (stored .length) sheet′ (read-within 6 b m first sheet stored sheet′ (by-schema .0) (by-schema .1))) ∙ ap length s in
             let l′ : Affords second (enough 6 (withoutInplaceUnions b) (messageSheet 6 b m)) =
             subst (λ (x : List ℕ). Affords second (enough 6 (withoutInplaceUnions b) x)) s l in
             let r′ : length (messageSheet 6 b m) ≤ length out = subst (λ (x : ℕ). x ≤ length out) k r in
@@ -125,3 +133,18 @@ module _ (b m : List ℕ) (schema-bytes : AreBytes b) (message-bytes : AreBytes 
               e ∙ ap (λ (c : List ℕ). readAnswer 6 c (take (w .length) room′) second out) (schema-cleared g) ∙ reads-back .answer second out l′ r′,
               f ∙ ap (λ (c : List ℕ). readOut 6 c (take (w .length) room′) second out) (schema-cleared g) ∙ reads-back .output second out l′ r′,
             )
+
+        -- the same, read with the cleared schema's table
+        pub back-lent : (rows : List ℕ) → TableOf 6 (withoutInplaceUnions b) rows → (second : Budget) (out out′ : List ℕ) (a : ReadAnswer)
+            → a ≡ readAnswer 6 (withTable 6 (take (cleared .length) newer′) rows) (take (w .length) room′) second out
+            → out′ ≡ readOut 6 (withTable 6 (take (cleared .length) newer′) rows) (take (w .length) room′) second out
+            → Affords second (enough 6 (withoutInplaceUnions b) (take (stored .length) sheet′)) → stored .length ≤ length out
+            → (a ≡ record {
+              verdict = atZero 0 (enough 6 (withoutInplaceUnions b) (take (stored .length) sheet′));
+              length = stored .length;
+            })
+            × (out′ ≡ take (stored .length) sheet′ ++ drop (stored .length) out)
+        back-lent rows table second out out′ a e f =
+            let own = table ∙ ap (positionsOf 6) (sym (schema-cleared g)) in
+            let y = old-read 6 (take (cleared .length) newer′) rows own (take (w .length) room′) second out out′ a e f in
+            back-same second out out′ a (y .0) (y .1)

@@ -13,6 +13,7 @@ use Rattle.coding.specs.Sheet.{sheetTree}
 use Rattle.coding.specs.Message.{messageSheet, readAnswer, readOut}
 use Rattle.coding.specs.Field as Field
 use Rattle.coding.specs.Append.{Appends, sheetWithout}
+use Rattle.coding.specs.Positions.{withTable}
 use Rattle.coding.specs.declared.Answer.{Answer}
 use Rattle.coding.specs.declared.Answer.the-variants as A
 use Rattle.coding.specs.declared.Budget.{Budget}
@@ -32,7 +33,8 @@ use Rattle.demands.specs.FieldEntries.{shown}
 use Rattle.demands.specs.Fields.{sheet-entry, field-refusal}
 use Rattle.demands.specs.Texts.{IsText, part-answers, text-part}
 use Rattle.demands.specs.SheetText.{sheet-text}
-use Rattle.promises.specs.Words.{Accepts, costs, arrivals, contents, Fits, NoRoom, HandsOut, CutDown, entryAt, textAt}
+use Rattle.promises.specs.Words.{TableOf, Accepts, costs, arrivals, contents, Fits, NoRoom, HandsOut, CutDown, entryAt, textAt}
+use Rattle.promises.proofs.Tables.{verdict-by, answer-by, out-by}
 use Rattle.promises.proofs.Reading.{handed, hands-out, read-or-room, fits-read, read-fits, no-room}
 
 -- ---- judging
@@ -46,11 +48,13 @@ module _ (o : ℕ) (b m : List ℕ) (budget : Budget) (r : Verdict) (e : r ≡ v
   pub judges-content : r .number ≡ 0 → r .content ≡ contents o b m
   judges-content = rw e (accepted-content o b m budget)
 
-module _ (o : ℕ) (older newer m : List ℕ) (budget : Budget) (older-bytes : AreBytes older) (r s : Verdict) (er : r ≡ verdict o older m budget)
-    (es : s ≡ verdict o newer m budget) where
-  pub both-judge : Appends o older newer → s .number ≡ 0 → (r .number ≡ 0) × (r .visits ≤ s .visits) × (r .content ≤ s .content)
-  both-judge appends =
-      rw (er, es) (λ h. let y = older-accepts o older newer older-bytes appends m budget h in (y .0, y .1 .visits, y .1 .content))
+module _ (o : ℕ) (older newer t u m : List ℕ) (budget : Budget) (older-bytes : AreBytes older) (r s : Verdict)
+    (er : r ≡ verdict o (withTable o older t) m budget) (es : s ≡ verdict o (withTable o newer u) m budget) where
+  pub both-judge : Appends o older newer → TableOf o older t → TableOf o newer u → s .number ≡ 0
+      → (r .number ≡ 0) × (r .visits ≤ s .visits) × (r .content ≤ s .content)
+  both-judge appends first second =
+      rw (verdict-by o older t first (appends .older-lawful) m budget r er, verdict-by o newer u second (appends .newer-lawful) m budget s es)
+      (λ h. let y = older-accepts o older newer older-bytes appends m budget h in (y .0, y .1 .visits, y .1 .content))
 
 -- ---- reading to a sheet
 module _ (o : ℕ) (b m : List ℕ) (budget : Budget) (out : List ℕ) (a : ReadAnswer) (ea : a ≡ readAnswer o b m budget out) where
@@ -83,17 +87,22 @@ module _ (o : ℕ) (b m : List ℕ) (schema-bytes : AreBytes b) (message-bytes :
       rw (got .sheet) (verdict-sheet-lawful o b m schema-bytes message-bytes budget (got .accepted) (got .sized))
 
 -- ---- by the older schema, what the newer accepts
-module _ (o : ℕ) (older newer m : List ℕ) (older-bytes : AreBytes older) (newer-bytes : AreBytes newer) (message-bytes : AreBytes m) (budget : Budget)
-    (out out′ : List ℕ) (a : ReadAnswer) (ea : a ≡ readAnswer o older m budget out) (eo : out′ ≡ readOut o older m budget out)
-    (appends : Appends o older newer) (accepted : Accepts o newer m budget) where
+module _ (o : ℕ) (older newer t m : List ℕ) (older-bytes : AreBytes older) (newer-bytes : AreBytes newer) (message-bytes : AreBytes m) (budget : Budget)
+    (out out′ : List ℕ) (a : ReadAnswer) (ea : a ≡ readAnswer o (withTable o older t) m budget out)
+    (eo : out′ ≡ readOut o (withTable o older t) m budget out) (appends : Appends o older newer) (table : TableOf o older t)
+    (accepted : Accepts o newer m budget) where
   agrees : OlderAgrees o older newer m budget
   agrees = older-agrees o older newer m older-bytes newer-bytes message-bytes appends budget accepted
 
   pub older-reads : (a .verdict .number ≡ 0) ⊎ (a .verdict .number ≡ 14)
-  older-reads = read-or-room o older m budget out a ea (agrees .accepts) .0
+  older-reads =
+      read-or-room o older m budget out a (answer-by o older t table (appends .older-lawful) m budget out a ea) (agrees .accepts) .0
 
   pub older-hands-out : HandsOut a out′ (sheetWithout older newer (messageSheet o newer m))
-  older-hands-out h = hands-out o older m budget out a out′ ea eo h ∙ agrees .sheet
+  older-hands-out h =
+      hands-out o older m budget out a out′ (answer-by o older t table (appends .older-lawful) m budget out a ea)
+      (out-by o older t table (appends .older-lawful) m budget out out′ eo) h
+      ∙ agrees .sheet
 
 -- ---- with two budgets
 module _ (o : ℕ) (b m : List ℕ) (less more : Budget) where
@@ -119,18 +128,23 @@ module _ (o : ℕ) (b m : List ℕ) (less more : Budget) where
 -- ---- by three schemas, what the newest accepts
 module _ (o : ℕ) (oldest middle newest m : List ℕ) (oldest-bytes : AreBytes oldest) (middle-bytes : AreBytes middle)
     (newest-bytes : AreBytes newest) (message-bytes : AreBytes m) (budget : Budget) where
-  pub three-read : (out first : List ℕ) (a : ReadAnswer) → a ≡ readAnswer o oldest m budget out → first ≡ readOut o oldest m budget out
-      → (out′ second : List ℕ) (b : ReadAnswer) → b ≡ readAnswer o middle m budget out′ → second ≡ readOut o middle m budget out′
-      → Appends o oldest middle → Appends o middle newest → Accepts o newest m budget
+  pub three-read : (t u out first : List ℕ) (a : ReadAnswer) → a ≡ readAnswer o (withTable o oldest t) m budget out
+      → first ≡ readOut o (withTable o oldest t) m budget out → (out′ second : List ℕ) (b : ReadAnswer)
+      → b ≡ readAnswer o (withTable o middle u) m budget out′ → second ≡ readOut o (withTable o middle u) m budget out′
+      → Appends o oldest middle → Appends o middle newest → TableOf o oldest t → TableOf o middle u → Accepts o newest m budget
       → CutDown a first b second oldest middle newest (messageSheet o newest m)
-  three-read out first a ea eo out′ second b eb ep one two h =
+  three-read t u out first a ea eo out′ second b eb ep one two one-table two-table h =
       let x = three-agree o oldest middle newest m oldest-bytes middle-bytes newest-bytes message-bytes one two budget h in
+      let ha = answer-by o oldest t one-table (one .older-lawful) m budget out a ea in
+      let ho = out-by o oldest t one-table (one .older-lawful) m budget out first eo in
+      let hb = answer-by o middle u two-table (one .newer-lawful) m budget out′ b eb in
+      let hp = out-by o middle u two-table (one .newer-lawful) m budget out′ second ep in
       record {
-        oldest-reads = read-or-room o oldest m budget out a ea (x .oldest-agrees .accepts) .0;
-        middle-reads = read-or-room o middle m budget out′ b eb (x .middle-agrees .accepts) .0;
-        to-middle = λ n. hands-out o middle m budget out′ b second eb ep n ∙ x .middle-agrees .sheet;
+        oldest-reads = read-or-room o oldest m budget out a ha (x .oldest-agrees .accepts) .0;
+        middle-reads = read-or-room o middle m budget out′ b hb (x .middle-agrees .accepts) .0;
+        to-middle = λ n. hands-out o middle m budget out′ b second hb hp n ∙ x .middle-agrees .sheet;
         twice = x .cut-twice;
-        to-oldest = λ n. hands-out o oldest m budget out a first ea eo n ∙ x .at-once .sheet;
+        to-oldest = λ n. hands-out o oldest m budget out a first ha ho n ∙ x .at-once .sheet;
       }
 
 -- ---- one field of an accepted message

@@ -1,5 +1,6 @@
 -- The demands of writing, of what the writer and then the reader answer.
 use mathlib.Core.Path.{_≡_, sym, ap, _∙_, subst}
+use mathlib.Core.Bool.{true}
 use mathlib.Core.List.{List, _++_}
 use mathlib.Core.Logic.{_⊎_}
 use Prim.Native.Nat.{ℕ, suc, _+_, _<_, _≤_}
@@ -7,6 +8,8 @@ use native.Mathlib.Omega.{arith}
 use lib.ListN.{length, take, drop}
 use borrow.Author.Tests.{le-leb}
 use Rattle.coding.specs.Packed.{parse}
+use Rattle.coding.specs.Lawful.{lawful}
+use Rattle.coding.specs.Positions.{withTable}
 use Rattle.coding.specs.Walk.{refusal, spending, verdictAt, atZero, spentOf, verdict}
 use Rattle.coding.specs.Value.{Value}
 use Rattle.coding.specs.Message.{message, messageOf, messageSheet, written, writeRoom, writeOver, writeAnswer, writeOut, readAnswer, readOut}
@@ -22,7 +25,8 @@ use Rattle.demands.specs.RoundTrip.{written-too-little, written-few-visits, wri
 use Rattle.demands.specs.Spending.{Affords}
 use Rattle.demands.specs.NewerAgrees.{newer-agrees}
 use Rattle.demands.specs.WrittenSheet.{WrittenAs, written-as}
-use Rattle.promises.specs.Words.{Fits, HandsOut, Writable, layoutOf}
+use Rattle.promises.specs.Words.{TableOf, Fits, HandsOut, Writable, layoutOf}
+use Rattle.promises.proofs.Tables.{verdict-by, answer-by, out-by}
 use Rattle.promises.proofs.Reading.{hands-out, read-or-room, gives-refusal, keeps-output}
 use Rattle.promises.proofs.Writing.{made}
 
@@ -55,8 +59,17 @@ module _ (o : ℕ) (b s : List ℕ) (schema-bytes : AreBytes b) (sheet-bytes : A
   pub trip-sheet : messageSheet o b (take (w .length) room′) ≡ s
   trip-sheet = written-sheet o b s (take (w .length) room′) schema-bytes sheet-bytes is-made
 
-  module _ (budget : Budget) (out out′ : List ℕ) (a : ReadAnswer) (ea : a ≡ readAnswer o b (take (w .length) room′) budget out)
-      (eo : out′ ≡ readOut o b (take (w .length) room′) budget out) where
+  good : lawful o b ≡ true
+  good = lays-out-only o b s room w ew room′ er h .schema
+
+  module _ (t : List ℕ) (budget : Budget) (out out′ : List ℕ) (a : ReadAnswer) (e : a ≡ readAnswer o (withTable o b t) (take (w .length) room′) budget out)
+      (f : out′ ≡ readOut o (withTable o b t) (take (w .length) room′) budget out) (table : TableOf o b t) where
+    ea : a ≡ readAnswer o b (take (w .length) room′) budget out
+    ea = answer-by o b t table good (take (w .length) room′) budget out a e
+
+    eo : out′ ≡ readOut o b (take (w .length) room′) budget out
+    eo = out-by o b t table good (take (w .length) room′) budget out out′ f
+
     pub reads-back : Affords budget (enough o b s) → length s ≤ length out
         → (a ≡ record { verdict = atZero 0 (enough o b s); length = length s }) × (out′ ≡ s ++ drop (length s) out)
     reads-back l r = (
@@ -95,24 +108,33 @@ module _ (o : ℕ) (b s : List ℕ) (schema-bytes : AreBytes b) (sheet-bytes : A
 
   -- ---- writing under the older schema, then reading by the newer
   module _ (newer : List ℕ) (appends : Appends o b newer) where
-    pub same-verdict : (budget : Budget) (r q : Verdict) → r ≡ verdict o b (take (w .length) room′) budget → q ≡ verdict o newer (take (w .length) room′) budget
-        → q ≡ r
-    same-verdict budget r q e f =
-        f ∙ newer-agrees o b newer s (take (w .length) room′) schema-bytes sheet-bytes appends is-made .verdicts budget ∙ sym e
+    pub same-verdict : (t u : List ℕ) (budget : Budget) (r q : Verdict) → r ≡ verdict o (withTable o b t) (take (w .length) room′) budget
+        → q ≡ verdict o (withTable o newer u) (take (w .length) room′) budget → TableOf o b t → TableOf o newer u → q ≡ r
+    same-verdict t u budget r q e f first second =
+        verdict-by o newer u second (appends .newer-lawful) (take (w .length) room′) budget q f
+        ∙ newer-agrees o b newer s (take (w .length) room′) schema-bytes sheet-bytes appends is-made .verdicts budget
+        ∙ sym (verdict-by o b t first (appends .older-lawful) (take (w .length) room′) budget r e)
 
     pub added-sheet : messageSheet o newer (take (w .length) room′) ≡ sheetWith o b newer s
     added-sheet = newer-agrees o b newer s (take (w .length) room′) schema-bytes sheet-bytes appends is-made .newer-sheet
 
-    module _ (budget : Budget) (out out′ : List ℕ) (a : ReadAnswer) (ea : a ≡ readAnswer o newer (take (w .length) room′) budget out)
-        (eo : out′ ≡ readOut o newer (take (w .length) room′) budget out) where
+    module _ (u : List ℕ) (budget : Budget) (out out′ : List ℕ) (a : ReadAnswer)
+        (e : a ≡ readAnswer o (withTable o newer u) (take (w .length) room′) budget out)
+        (f : out′ ≡ readOut o (withTable o newer u) (take (w .length) room′) budget out) (table : TableOf o newer u) where
+      ea′ : a ≡ readAnswer o newer (take (w .length) room′) budget out
+      ea′ = answer-by o newer u table (appends .newer-lawful) (take (w .length) room′) budget out a e
+
+      eo′ : out′ ≡ readOut o newer (take (w .length) room′) budget out
+      eo′ = out-by o newer u table (appends .newer-lawful) (take (w .length) room′) budget out out′ f
+
       pub reads-added : Affords budget (enough o b s)
           → ((a .verdict .number ≡ 0) ⊎ (a .verdict .number ≡ 14)) × (spentOf (a .verdict) ≡ enough o b s)
       reads-added l =
           let m = take (w .length) room′ in
           let agrees = newer-agrees o b newer s m schema-bytes sheet-bytes appends is-made in
           let v = agrees .verdicts budget ∙ written-verdict o b s m schema-bytes sheet-bytes is-made budget l in
-          let y = read-or-room o newer m budget out a ea (ap (λ (x : Verdict). x .number) v) in
+          let y = read-or-room o newer m budget out a ea′ (ap (λ (x : Verdict). x .number) v) in
           (y .0, y .1 ∙ ap (λ (x : Verdict). spentOf x) v)
 
       pub hands-added : HandsOut a out′ (sheetWith o b newer s)
-      hands-added h = hands-out o newer (take (w .length) room′) budget out a out′ ea eo h ∙ added-sheet
+      hands-added h = hands-out o newer (take (w .length) room′) budget out a out′ ea′ eo′ h ∙ added-sheet

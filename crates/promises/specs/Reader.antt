@@ -9,24 +9,24 @@ use Rattle.coding.specs.declared.Object.{Object}
 use Rattle.coding.specs.declared.Answer.{Answer}
 use Rattle.coding.specs.declared.Answer.the-variants as A
 use Rattle.coding.specs.declared.Refusal.{Refusal}
-use Rattle.field_reader.specs.Reading.{gives, after}
+use Rattle.field_reader.specs.Reading.{schemaOf, gives, after}
 use Rattle.field_reader.specs.declared.ListReader.{ListReader}
 use Rattle.promises.specs.Words.{LeadsToList}
 
 -- the reader's path leads to "a list whose elements are of kinds 13 to 17" or to a direct list, of n elements, at a place
 abbrev pub listAt : ListReader → Object → ℕ → ℕ → ℕ → ℕ → Type 0
-listAt r ob at start n left = LeadsToList (r .width) (now (r .schema)) (now (r .message)) (now (r .path)) ob at start n left
+listAt r ob at start n left = LeadsToList (r .width) (schemaOf r) (now (r .message)) (now (r .path)) ob at start n left
 
 -- the answer at the reader's path, and at its element's path
 abbrev pub pathField : ListReader → Answer
-pathField r = field (r .width) (now (r .schema)) (now (r .message)) (now (r .path))
+pathField r = field (r .width) (schemaOf r) (now (r .message)) (now (r .path))
 
 abbrev pub elementField : ListReader → Answer
-elementField r = field (r .width) (now (r .schema)) (now (r .message)) (now (r .path) ++ r .element ∷ [])
+elementField r = field (r .width) (schemaOf r) (now (r .message)) (now (r .path) ++ r .element ∷ [])
 
 -- the reader at another element
 abbrev pub atElement : ListReader → ℕ → ListReader
-atElement r j = record { schema = r .schema; message = r .message; path = r .path; element = j; width = r .width }
+atElement r j = record { schema = r .schema; positions = r .positions; message = r .message; path = r .path; element = j; width = r .width }
 
 -- what the papers demand of a step that answers q and leaves the reader r′
 pub record Stepped (r : ListReader) (q : Answer) (r′ : ListReader) : Type 0 where

@@ -5,14 +5,16 @@ use mathlib.Core.Bool.{Bool, true, false}
 use mathlib.Core.List.{List}
 use mathlib.Core.Logic.{_⊎_}
 use mathlib.Core.Option.{Option, some}
-use Prim.Native.Nat.{ℕ, _*_, _<_, _≤_}
+use Prim.Native.Nat.{ℕ, _+_, _*_, _<_, _≤_}
 use lib.ListN.{length, take, drop}
 use denote.Ref.{RefT}
 use denote.Triple.Both.{Both}
 use Rattle.coding.specs.Bytes.{deepest, largest}
-use Rattle.coding.specs.Schema.{Schema, elementOf}
+use Rattle.coding.specs.Schema.{Schema, elementOf, tableOf, memberOf}
 use Rattle.coding.specs.Packed.{parse}
 use Rattle.coding.specs.Lawful.{lawful}
+use Rattle.coding.specs.Layout.{placementOf, begin, afterMembers}
+use Rattle.coding.specs.Positions.{positionsOf, withTable}
 use Rattle.coding.specs.Walk.{verdict}
 use Rattle.coding.specs.Value.{Value}
 use Rattle.coding.specs.Read.{messageRead}
@@ -22,6 +24,8 @@ use Rattle.coding.specs.Append.{sheetWithout}
 use Rattle.coding.specs.Field.{fieldFound, leads, answerCase, caseNumbers}
 use Rattle.coding.specs.declared.Object.{Object}
 use Rattle.coding.specs.declared.Object.the-variants as O
+use Rattle.coding.specs.declared.Member.{Member}
+use Rattle.coding.specs.declared.Placement.{Placement}
 use Rattle.coding.specs.declared.Found.the-variants as Fd
 use Rattle.coding.specs.declared.Answer.{Answer}
 use Rattle.coding.specs.declared.Budget.{Budget}
@@ -32,6 +36,7 @@ use Rattle.demands.specs.FieldEntries.{Entry}
 use Rattle.demands.specs.Fields.{sheetEntry}
 use Rattle.demands.specs.SheetText.{sheetText}
 use Rattle.demands.specs.UnionsInPlace.{writableBefore, treeFree}
+use Rattle.laws.specs.PositionRows.{memberTotal}
 
 -- ---- parameters
 -- what a parameter holds as the function is called
@@ -41,6 +46,28 @@ given x = x .entry .now
 -- what a lent buffer holds as the function returns
 abbrev pub after : {X Y : Type 0} → Both Y (RefT X) → X
 after x = x .exit .now
+
+-- ---- the table of member positions (02, K10)
+-- the schema that a reader goes by, of a schema's bytes and the table that is lent with them: with the table that is built from it the
+-- schema itself, with any other no bytes, which are lawful under no coding
+abbrev pub lent : {X Y : Type 0} → ℕ → Both (RefT (List ℕ)) X → Both (RefT (List ℕ)) Y → List ℕ
+lent o schema rows = withTable o (schema .entry .now) (rows .entry .now)
+
+-- t is the table that is built from schema b
+abbrev pub TableOf : ℕ → List ℕ → List ℕ → Type 0
+TableOf o b t = t ≡ positionsOf o b
+
+-- the members of table i
+abbrev pub membersOf : List ℕ → ℕ → List Member
+membersOf b i = tableOf (parse b) i .members
+
+-- "for each table member in schema order three little-endian U32s": where the row of member j of table i stands
+abbrev pub rowPlace : List ℕ → ℕ → ℕ → ℕ
+rowPlace b i j = 12 * (memberTotal (take i (parse b .tables)) + j)
+
+-- "what the old rule gives": where that member stands, behind the members before it
+abbrev pub oldPlacement : ℕ → List ℕ → ℕ → ℕ → Placement
+oldPlacement o b i j = placementOf o (parse b) (memberOf (parse b) i j) (afterMembers o (parse b) (take j (membersOf b i)) begin)
 
 -- ---- judging and reading
 -- the message is accepted: number 0 of judging

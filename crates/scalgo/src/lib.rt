@@ -1,5 +1,5 @@
 // The library's C interface: thin, no logic. include/scalgo.h declares it. The number `coding` says the coding, 48 or 32; any other
-// names none, and no schema is lawful then.
+// names none, and no schema is lawful then. Every reader is lent the table of member positions that `scalgo_positions` makes.
 use coding::Budget;
 use coding::Verdict;
 ghost use mathlib.Core.Path.{_≡_};
@@ -10,8 +10,9 @@ ghost use Rattle.coding.specs.Field as F;
 ghost use Rattle.coding.specs.Lists.{pick};
 ghost use Rattle.coding.specs.Message as M;
 ghost use Rattle.coding.specs.Moving as Mv;
+ghost use Rattle.coding.specs.Positions as Po;
 ghost use Rattle.coding.specs.Walk as W;
-ghost use Rattle.scalgo.specs.Numbers.{verdictNumbers};
+ghost use Rattle.scalgo.specs.Numbers.{verdictNumbers, lent};
 
 // Stores a verdict's number, place, member, visits and content.
 fn store(v: Verdict, to: &mut [u64; 5])
@@ -26,21 +27,40 @@ fn store(v: Verdict, to: &mut [u64; 5])
     ];
 }
 
+// Makes the table of member positions of a packed schema: answers the number, and stores the table's length.
+#[no_mangle]
+pub extern "C" fn scalgo_positions(
+    coding: u32,
+    schema: &[u8],
+    positions: &mut [u8],
+    length: &mut u64,
+) -> u32
+    ensures { λ r. ⌜ r ≡ Po.positionsAnswer (B.widthOf coding) (now (schema .entry)) (now (positions .entry)) .number ⌝ }
+    ensures { λ _. ⌜ now (length .exit) ≡ Po.positionsAnswer (B.widthOf coding) (now (schema .entry)) (now (positions .entry)) .length ⌝ }
+    ensures { λ _. ⌜ now (positions .exit) ≡ Po.positionsOut (B.widthOf coding) (now (schema .entry)) (now (positions .entry)) ⌝ }
+{
+    let o = wire::width_of(coding);
+    let answer = positions::positions(schema, positions, o);
+    *length = answer.length as u64;
+    answer.number as u32
+}
+
 // Judges a message by a packed schema within two allowances: answers the number, and stores the verdict.
 #[no_mangle]
 pub extern "C" fn scalgo_judge(
     coding: u32,
     schema: &[u8],
+    positions: &[u8],
     message: &[u8],
     visits: u32,
     content: u64,
     verdict: &mut [u64; 5],
 ) -> u32
-    ensures { λ r. ⌜ r ≡ W.verdict (B.widthOf coding) (now (schema .entry)) (now (message .entry)) (W.allowing visits content) .number ⌝ }
-    ensures { λ _. ⌜ now (verdict .exit) ≡ verdictNumbers (W.verdict (B.widthOf coding) (now (schema .entry)) (now (message .entry)) (W.allowing visits content)) ⌝ }
+    ensures { λ r. ⌜ r ≡ W.verdict (B.widthOf coding) (lent coding schema positions) (now (message .entry)) (W.allowing visits content) .number ⌝ }
+    ensures { λ _. ⌜ now (verdict .exit) ≡ verdictNumbers (W.verdict (B.widthOf coding) (lent coding schema positions) (now (message .entry)) (W.allowing visits content)) ⌝ }
 {
     let o = wire::width_of(coding);
-    let v = judge::judge(schema, message, Budget { visits, content }, o);
+    let v = judge::judge(schema, positions, message, Budget { visits, content }, o);
     store(v, verdict);
     v.number as u32
 }
@@ -50,19 +70,20 @@ pub extern "C" fn scalgo_judge(
 pub extern "C" fn scalgo_field(
     coding: u32,
     schema: &[u8],
+    positions: &[u8],
     message: &[u8],
     path: &[u32],
     a: &mut u64,
     b: &mut u64,
     c: &mut u64,
 ) -> u32
-    ensures { λ r. ⌜ r ≡ F.answerCase (F.field (B.widthOf coding) (now (schema .entry)) (now (message .entry)) (now (path .entry))) .case ⌝ }
-    ensures { λ _. ⌜ now (a .exit) ≡ F.answerCase (F.field (B.widthOf coding) (now (schema .entry)) (now (message .entry)) (now (path .entry))) .a ⌝ }
-    ensures { λ _. ⌜ now (b .exit) ≡ F.answerCase (F.field (B.widthOf coding) (now (schema .entry)) (now (message .entry)) (now (path .entry))) .b ⌝ }
-    ensures { λ _. ⌜ now (c .exit) ≡ F.answerCase (F.field (B.widthOf coding) (now (schema .entry)) (now (message .entry)) (now (path .entry))) .c ⌝ }
+    ensures { λ r. ⌜ r ≡ F.answerCase (F.field (B.widthOf coding) (lent coding schema positions) (now (message .entry)) (now (path .entry))) .case ⌝ }
+    ensures { λ _. ⌜ now (a .exit) ≡ F.answerCase (F.field (B.widthOf coding) (lent coding schema positions) (now (message .entry)) (now (path .entry))) .a ⌝ }
+    ensures { λ _. ⌜ now (b .exit) ≡ F.answerCase (F.field (B.widthOf coding) (lent coding schema positions) (now (message .entry)) (now (path .entry))) .b ⌝ }
+    ensures { λ _. ⌜ now (c .exit) ≡ F.answerCase (F.field (B.widthOf coding) (lent coding schema positions) (now (message .entry)) (now (path .entry))) .c ⌝ }
 {
     let o = wire::width_of(coding);
-    let answer = field::case_of(field::field(schema, message, path, o));
+    let answer = field::case_of(field::field(schema, positions, message, path, o));
     *a = answer.a;
     *b = answer.b;
     *c = answer.c;
@@ -75,18 +96,19 @@ pub extern "C" fn scalgo_field(
 pub extern "C" fn scalgo_text(
     coding: u32,
     schema: &[u8],
+    positions: &[u8],
     message: &[u8],
     path: &[u32],
     start: &mut u64,
     length: &mut u64,
 ) -> u32
-    ensures { λ r. ⌜ r ≡ pick (F.fieldSpan (B.widthOf coding) (now (schema .entry)) (now (message .entry)) (now (path .entry)) .there) 1 0 ⌝ }
-    ensures { λ _. ⌜ now (start .exit) ≡ F.fieldSpan (B.widthOf coding) (now (schema .entry)) (now (message .entry)) (now (path .entry)) .start ⌝ }
-    ensures { λ _. ⌜ now (length .exit) ≡ F.fieldSpan (B.widthOf coding) (now (schema .entry)) (now (message .entry)) (now (path .entry)) .length ⌝ }
+    ensures { λ r. ⌜ r ≡ pick (F.fieldSpan (B.widthOf coding) (lent coding schema positions) (now (message .entry)) (now (path .entry)) .there) 1 0 ⌝ }
+    ensures { λ _. ⌜ now (start .exit) ≡ F.fieldSpan (B.widthOf coding) (lent coding schema positions) (now (message .entry)) (now (path .entry)) .start ⌝ }
+    ensures { λ _. ⌜ now (length .exit) ≡ F.fieldSpan (B.widthOf coding) (lent coding schema positions) (now (message .entry)) (now (path .entry)) .length ⌝ }
     ensures { λ _. ⌜ now (start .exit) + now (length .exit) ≤ N.length (now (message .entry)) ⌝ }
 {
     let o = wire::width_of(coding);
-    let span = field::text_span(schema, message, path, o);
+    let span = field::text_span(schema, positions, message, path, o);
     *start = span.start as u64;
     *length = span.length as u64;
     span.there as u32
@@ -98,16 +120,17 @@ pub extern "C" fn scalgo_text(
 pub extern "C" fn scalgo_list(
     coding: u32,
     schema: &[u8],
+    positions: &[u8],
     message: &[u8],
     path: &[u32],
     from: u64,
     cases: &mut [u64],
 ) -> u64
-    ensures { λ r. ⌜ r ≡ F.readerCount (B.widthOf coding) (now (schema .entry)) (now (message .entry)) (now (path .entry)) ⌝ }
-    ensures { λ _. ⌜ now (cases .exit) ≡ F.readerOver (B.widthOf coding) (now (schema .entry)) (now (message .entry)) (now (path .entry)) from (now (cases .entry)) ⌝ }
+    ensures { λ r. ⌜ r ≡ F.readerCount (B.widthOf coding) (lent coding schema positions) (now (message .entry)) (now (path .entry)) ⌝ }
+    ensures { λ _. ⌜ now (cases .exit) ≡ F.readerOver (B.widthOf coding) (lent coding schema positions) (now (message .entry)) (now (path .entry)) from (now (cases .entry)) ⌝ }
 {
     let o = wire::width_of(coding);
-    field_list::read_list(schema, message, path, from as usize, cases, o) as u64
+    field_list::read_list(schema, positions, message, path, from as usize, cases, o) as u64
 }
 
 // Reads a message to its value sheet within two allowances: answers the number, and stores the verdict and the sheet's length.
@@ -115,6 +138,7 @@ pub extern "C" fn scalgo_list(
 pub extern "C" fn scalgo_read(
     coding: u32,
     schema: &[u8],
+    positions: &[u8],
     message: &[u8],
     visits: u32,
     content: u64,
@@ -122,13 +146,20 @@ pub extern "C" fn scalgo_read(
     verdict: &mut [u64; 5],
     length: &mut u64,
 ) -> u32
-    ensures { λ r. ⌜ r ≡ M.readAnswer (B.widthOf coding) (now (schema .entry)) (now (message .entry)) (W.allowing visits content) (now (sheet .entry)) .verdict .number ⌝ }
-    ensures { λ _. ⌜ now (verdict .exit) ≡ verdictNumbers (M.readAnswer (B.widthOf coding) (now (schema .entry)) (now (message .entry)) (W.allowing visits content) (now (sheet .entry)) .verdict) ⌝ }
-    ensures { λ _. ⌜ now (length .exit) ≡ M.readAnswer (B.widthOf coding) (now (schema .entry)) (now (message .entry)) (W.allowing visits content) (now (sheet .entry)) .length ⌝ }
-    ensures { λ _. ⌜ now (sheet .exit) ≡ M.readOut (B.widthOf coding) (now (schema .entry)) (now (message .entry)) (W.allowing visits content) (now (sheet .entry)) ⌝ }
+    ensures { λ r. ⌜ r ≡ M.readAnswer (B.widthOf coding) (lent coding schema positions) (now (message .entry)) (W.allowing visits content) (now (sheet .entry)) .verdict .number ⌝ }
+    ensures { λ _. ⌜ now (verdict .exit) ≡ verdictNumbers (M.readAnswer (B.widthOf coding) (lent coding schema positions) (now (message .entry)) (W.allowing visits content) (now (sheet .entry)) .verdict) ⌝ }
+    ensures { λ _. ⌜ now (length .exit) ≡ M.readAnswer (B.widthOf coding) (lent coding schema positions) (now (message .entry)) (W.allowing visits content) (now (sheet .entry)) .length ⌝ }
+    ensures { λ _. ⌜ now (sheet .exit) ≡ M.readOut (B.widthOf coding) (lent coding schema positions) (now (message .entry)) (W.allowing visits content) (now (sheet .entry)) ⌝ }
 {
     let o = wire::width_of(coding);
-    let answer = sheet::read(schema, message, Budget { visits, content }, sheet, o);
+    let answer = sheet::read(
+        schema,
+        positions,
+        message,
+        Budget { visits, content },
+        sheet,
+        o,
+    );
     let v = answer.verdict;
     store(v, verdict);
     *length = answer.length as u64;

@@ -13,6 +13,8 @@ use borrow.Author.Tests.{le-leb, lt-leb, leb-true, leb-false, eq-eqb, ne-eqb}
 use Rattle.coding.specs.Lists.{pick}
 use Rattle.coding.specs.Bytes.{deepest, largest}
 use Rattle.coding.specs.Packed as P
+use Rattle.coding.specs.Lawful.{lawful}
+use Rattle.coding.specs.Positions.{withTable}
 use Rattle.coding.specs.Walk as W
 use Rattle.coding.specs.Bits.{bits, packed, byteCount}
 use Rattle.coding.specs.Sheet as E
@@ -26,7 +28,9 @@ use Rattle.coding.specs.declared.ReadAnswer.{ReadAnswer}
 use Rattle.laws.specs.All.{all-index}
 use Rattle.laws.specs.Lists.{both-left, both-right}
 use Rattle.laws.specs.Bits.{Byte, packed-length}
-use Rattle.schema.specs.Directory.{Accepted, AcceptedUnder, Judged, accepted-sound}
+use Rattle.schema.specs.Directory.{Accepted, AcceptedUnder, accepted-sound}
+use Rattle.positions.specs.Rows.{TableJudged}
+use Rattle.positions.specs.Lent.{lent-is, lent-refused}
 use Rattle.bitio.specs.Puts.{Room, Puts, saturated}
 use Rattle.bitio.specs.Filled.{sheet-filled}
 use Rattle.sheet_walk.specs.MessageBits as A
@@ -197,20 +201,30 @@ module _ (w : ℕ) (b m o : List ℕ) (budget : Budget) (v : Verdict) (ev : v �
     unfolding M.readOut
     refused-over = simp (← ev, ne-eqb _ _ h)
 
--- ---- a schema that is not lawful
-pub schema-accepted : (w : ℕ) (b dir : List ℕ) (t : Bool) → Judged w b dir t → t ≡ true → AcceptedUnder w b dir
-schema-accepted w b dir t j e = j .right e
-
+-- ---- a schema with a table
 abbrev unlawfulSchema : Verdict
 unlawfulSchema = record { number = 1; place = 0; member = 4294967295; visits = 0; content = 0 }
 
-unlawful : (w : ℕ) (b dir m : List ℕ) (budget : Budget) (t : Bool) → Judged w b dir t → t ≡ false → W.verdict w b m budget ≡ unlawfulSchema
+unlawful : (w : ℕ) (b m : List ℕ) (budget : Budget) → lawful w b ≡ false → W.verdict w b m budget ≡ unlawfulSchema
 unfolding W.verdict W.early W.nothing W.noMember
-unlawful w b dir m budget t j f = simp (← (j .is), f)
+unlawful w b m budget e = simp e
 
-module _ (w : ℕ) (b dir m o : List ℕ) (budget : Budget) (t : Bool) (j : Judged w b dir t) (f : t ≡ false) where
-  pub unlawful-answer : record { verdict = unlawfulSchema; length = 0 } ≡ M.readAnswer w b m budget o
-  unlawful-answer = refused-answer w b m o budget unlawfulSchema (sym (unlawful w b dir m budget t j f)) (λ e. omega arith)
+module _ (w : ℕ) (b rows dir m o : List ℕ) (budget : Budget) (t : Bool) (j : TableJudged w b rows dir t) where
+  -- the right table
+  module _ (f : t ≡ true) where
+    pub lent-answer : (r : ReadAnswer) → r ≡ M.readAnswer w b m budget o → r ≡ M.readAnswer w (withTable w b rows) m budget o
+    lent-answer r e = lent-is w b rows dir t j f (λ (s : List ℕ). M.readAnswer w s m budget o) r e
 
-  pub unlawful-over : o ≡ M.readOut w b m budget o
-  unlawful-over = refused-over w b m o budget unlawfulSchema (sym (unlawful w b dir m budget t j f)) (λ e. omega arith)
+    pub lent-over : (o₁ : List ℕ) → o₁ ≡ M.readOut w b m budget o → o₁ ≡ M.readOut w (withTable w b rows) m budget o
+    lent-over o₁ e = lent-is w b rows dir t j f (λ (s : List ℕ). M.readOut w s m budget o) o₁ e
+
+  -- a schema that is not lawful, or another table
+  module _ (f : t ≡ false) where
+    refused : W.verdict w (withTable w b rows) m budget ≡ unlawfulSchema
+    refused = unlawful w (withTable w b rows) m budget (lent-refused w b rows dir t j f)
+
+    pub unlawful-answer : record { verdict = unlawfulSchema; length = 0 } ≡ M.readAnswer w (withTable w b rows) m budget o
+    unlawful-answer = refused-answer w (withTable w b rows) m o budget unlawfulSchema (sym refused) (λ e. omega arith)
+
+    pub unlawful-over : o ≡ M.readOut w (withTable w b rows) m budget o
+    unlawful-over = refused-over w (withTable w b rows) m o budget unlawfulSchema (sym refused) (λ e. omega arith)

@@ -8,6 +8,7 @@ ghost use Prim.Native.Nat.{_≤_};
 ghost use lib.ListN.{length};
 ghost use Rattle.coding.specs.Bits.{packed, byteCount};
 ghost use Rattle.coding.specs.Message as M;
+ghost use Rattle.coding.specs.Positions as Po;
 ghost use Rattle.schema.specs.Directory.{Accepted, AcceptedUnder};
 ghost use Rattle.wire.specs.Sizes.{Width};
 ghost use Rattle.bitio.specs.Puts.{saturated};
@@ -102,14 +103,14 @@ fn read_judged(
     }
 }
 
-// Reads a message to its sheet: the verdict's refusal, or 14 where there is no room or the sheet is over the size; else the
-// sheet's length, and the sheet in the output, whose bytes after it keep what they held.
-pub fn read(b: &[u8], m: &[u8], budget: Budget, out: &mut [u8], o: usize) -> ReadAnswer
-    ensures { λ r. ⌜ r ≡ M.readAnswer o (now (b .entry)) (now (m .entry)) budget (now (out .entry)) ⌝ }
-    ensures { λ _. ⌜ now (out .exit) ≡ M.readOut o (now (b .entry)) (now (m .entry)) budget (now (out .entry)) ⌝ }
+// Reads a message to its sheet, with the schema's table of positions: the verdict's refusal, or 14 where there is no room or the
+// sheet is over the size; else the sheet's length, and the sheet in the output, whose bytes after it keep what they held.
+pub fn read(b: &[u8], rows: &[u8], m: &[u8], budget: Budget, out: &mut [u8], o: usize) -> ReadAnswer
+    ensures { λ r. ⌜ r ≡ M.readAnswer o (Po.withTable o (now (b .entry)) (now (rows .entry))) (now (m .entry)) budget (now (out .entry)) ⌝ }
+    ensures { λ _. ⌜ now (out .exit) ≡ M.readOut o (Po.withTable o (now (b .entry)) (now (rows .entry))) (now (m .entry)) budget (now (out .entry)) ⌝ }
 {
     let mut dir: [u16; 384] = [0; 384];
-    if schema_lawful::judge_schema(b, &mut dir, o) {
+    if positions::judge_schema(b, rows, &mut dir, o) {
         return read_judged(b, &dir, m, budget, out, o);
     }
     let refusal = Verdict {

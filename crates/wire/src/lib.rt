@@ -3,6 +3,7 @@
 ghost use mathlib.Core.Path.{_≡_};
 ghost use Prim.Native.Nat.{_+_, _*_, _/_, _%_, _^_, _≤_, _<_};
 ghost use lib.ListN.{length, getD};
+ghost use lib.Seq.{sets};
 ghost use lib.Dec.{eqb};
 ghost use Rattle.coding.specs.Bytes as B;
 ghost use Rattle.wire.specs.Numbers.{Number};
@@ -210,4 +211,27 @@ pub fn low_three(i: usize) -> usize
     ensures { λ r. ⌜ (r ≡ i % 8) × (r < 8) ⌝ }
 {
     i & 7
+}
+
+// ---- stores
+// The lowest byte of a number.
+pub fn low_byte(x: usize) -> u8
+    ensures { λ r. ⌜ r ≡ x % 256 ⌝ }
+{
+    (x & 255) as u8
+}
+
+// The four lowest bytes of a number, lowest first, where there is room for them.
+pub fn put_u32_in(out: &mut [u8], at: usize, x: usize)
+    requires { ⌜ (at < 2 ^ 62) × (at + 4 ≤ length (now out)) ⌝ }
+    ensures { λ _. ⌜ now (out .exit) ≡ sets (now (out .entry)) at (B.leBytes 4 x) ⌝ }
+{
+    let first = low_byte(x);
+    let second = low_byte(x >> 8);
+    let third = low_byte(x >> 16);
+    let fourth = low_byte(x >> 24);
+    out[at] = first;
+    out[at + 1] = second;
+    out[at + 2] = third;
+    out[at + 3] = fourth;
 }

@@ -14,6 +14,8 @@ pub struct Case {
     pub name: String,
     pub coding: Coding,
     pub schema: Vec<u8>,
+    /// The schema with its table of positions, where it is lawful.
+    lawful: Option<scalgo::Schema>,
     pub message: Vec<u8>,
     pub budget: Budget,
     pub expected: Expected,
@@ -61,6 +63,7 @@ impl Case {
         Case {
             name,
             coding,
+            lawful: scalgo::Schema::new(coding, &schema[..]).ok(),
             schema,
             message: message.finish(),
             budget: Budget::LARGEST,
@@ -71,6 +74,25 @@ impl Case {
     /// A message that is accepted after so many visits.
     pub fn accepted(name: &str, schema: &Schema, message: Message, visits: u32) -> Case {
         Case::new(name, schema.pack(), message, Expected::new(0, 0, visits))
+    }
+
+    /// The schema, where it is lawful.
+    pub fn lawful(&self) -> Option<&scalgo::Schema> {
+        self.lawful.as_ref()
+    }
+
+    /// The schema, which is lawful.
+    pub fn by(&self) -> &scalgo::Schema {
+        self.lawful().expect("a lawful schema")
+    }
+
+    /// What the second program is lent.
+    pub fn lent(&self) -> reference::Lent<'_> {
+        reference::Lent {
+            coding: self.coding.number(),
+            schema: &self.schema,
+            positions: self.lawful().map_or(&[], scalgo::Schema::positions),
+        }
     }
 
     /// A schema that is not lawful.
@@ -137,7 +159,7 @@ fn checkout(coding: Coding) -> Message {
     }
 }
 
-fn small(coding: Coding) -> Case {
+pub fn small(coding: Coding) -> Case {
     let schema = Schema {
         tables: vec![Table::new(0x4C49_4345, &[plain(U16), plain(TEXT)])],
         ..Schema::default()
@@ -227,6 +249,52 @@ pub fn tables_late(coding: Coding) -> Case {
     Case::accepted(name, &schema, put_tables(coding), visits)
 }
 
+/// One table by the last of the largest schema, with a U16 of 1 as member 0 and a U64 of 63 as
+/// member 63.
+pub fn table_late() -> Case {
+    let schema = largest(Record::of(TABLE, MOST - 1));
+    let mut message = Message::new(Bits48);
+    let reference = put_list(&mut message, 1, 6);
+    message.set_offset(reference, message.end());
+    message.header(INNER, 2 + 6 + 8 * (MOST - 2));
+    message.u16(1);
+    message.zeros(6 + 8 * (MOST - 3));
+    message.put(&63u64.to_le_bytes());
+    Case::accepted("one table by the largest schema", &schema, message, 3)
+}
+
+/// The only table of a schema, with a U16 of 1 as member 0 and a U64 of 63 as member 63; between them
+/// a bool, an optional U16 and a text in turn.
+pub fn one_table() -> Case {
+    let between = [plain(BOOL), plain(U16).optional(), plain(TEXT)];
+    let mut members = vec![plain(U16)];
+    members.extend(between.iter().cycle().take(MOST - 2));
+    members.push(plain(U64));
+    let mut fixed = Fixed::default();
+    fixed.put(&[1, 0]);
+    for number in 0..MOST - 2 {
+        match number % 3 {
+            0 => fixed.boolean(true),
+            1 => {
+                fixed.boolean(true);
+                fixed.put(&[7; 2]);
+            }
+            _ => {
+                fixed.put(&[0; 6]);
+            }
+        }
+    }
+    fixed.put(&63u64.to_le_bytes());
+    let schema = Schema {
+        tables: vec![Table { id: ROOT, members }],
+        ..Schema::default()
+    };
+    let mut message = Message::new(Bits48);
+    message.header(ROOT, fixed.bytes.len());
+    message.put(&fixed.bytes);
+    Case::accepted("one table of 64 members", &schema, message, 1)
+}
+
 fn unions_late() -> Case {
     let schema = largest(Record::of(UNION, MOST - 1));
     let mut message = Message::new(Bits48);
@@ -272,11 +340,12 @@ pub fn unions_moved() -> Case {
     let case = unions_in_place(Bits48);
     let (coding, most) = (Bits48.number(), usize::MAX);
     let budget = reference::Budget::LARGEST;
-    let (_, sheet) = reference::read(coding, &case.schema, &case.message, budget, most);
+    let (_, sheet) = reference::read(case.lent(), &case.message, budget, most);
     let (_, schema) = reference::clear_unions(&case.schema, most);
     let (_, message) = reference::write(coding, &schema, &sheet, most);
     Case {
         name: "(b) the same moved over".to_string(),
+        lawful: scalgo::Schema::new(Bits48, &schema[..]).ok(),
         schema,
         message,
         ..case

@@ -78,7 +78,7 @@ fn time_tasks(plan: &Plan) -> bool {
 /// The stack of either program, judging and reading to a sheet.
 fn stacks_of(case: &Case) -> [usize; 4] {
     const ROOM: usize = 1 << 16;
-    let (schema, message) = (&case.schema, &case.message);
+    let message = &case.message;
     [
         stack::touched(&|| {
             black_box(ours(case));
@@ -89,17 +89,11 @@ fn stacks_of(case: &Case) -> [usize; 4] {
         stack::touched(&|| {
             let mut sheet = vec![0; ROOM];
             let budget = scalgo::Budget::LARGEST;
-            black_box(scalgo::read(
-                case.coding,
-                schema,
-                message,
-                budget,
-                &mut sheet,
-            ));
+            black_box(case.by().read(message, budget, &mut sheet));
         }),
         stack::touched(&|| {
-            let (coding, budget) = (case.coding.number(), reference::Budget::LARGEST);
-            black_box(reference::read(coding, schema, message, budget, ROOM));
+            let budget = reference::Budget::LARGEST;
+            black_box(reference::read(case.lent(), message, budget, ROOM));
         }),
     ]
 }
@@ -241,15 +235,9 @@ mod tests {
         assert!(20.0 * few < all, "{few} ns of {all} ns");
         let output = RefCell::new(vec![0; refused.message.len()]);
         let read = best(&|| {
-            let Case {
-                coding,
-                schema,
-                message,
-                budget,
-                ..
-            } = &refused;
             let sheet = &mut output.borrow_mut();
-            black_box(scalgo::read(*coding, schema, message, *budget, sheet));
+            let (message, budget) = (&refused.message, refused.budget);
+            black_box(refused.by().read(message, budget, sheet));
         });
         let copied = best(&|| {
             output.borrow_mut().copy_from_slice(&refused.message);

@@ -3,24 +3,50 @@
 use crate::cases::Case;
 use reference::{Verdict, NO_MEMBER};
 
-/// The library.
+extern "C" {
+    fn scalgo_positions(
+        coding: u32,
+        schema: *const u8,
+        schema_len: usize,
+        positions: *mut u8,
+        room: usize,
+        length: *mut u64,
+    ) -> u32;
+}
+
+/// The library's table of positions: number and length.
+pub fn positions(coding: u32, schema: &[u8], table: &mut [u8]) -> [u64; 2] {
+    let mut length = 0;
+    // SAFETY: each slice is given as its pointer and its length; the schema is not written to
+    // during the call, the table is lent to this function alone, and the length is its own.
+    let number = unsafe {
+        scalgo_positions(
+            coding,
+            schema.as_ptr(),
+            schema.len(),
+            table.as_mut_ptr(),
+            table.len(),
+            &mut length,
+        )
+    };
+    [u64::from(number), length]
+}
+
+/// The library. Where the schema is not lawful no table can be made, and what is timed is that.
 pub fn ours(case: &Case) -> Verdict {
-    of_wrapper(scalgo::judge(
-        case.coding,
-        &case.schema,
-        &case.message,
-        case.budget,
-    ))
+    of_wrapper(match case.lawful() {
+        Some(schema) => schema.judge(&case.message, case.budget),
+        None => {
+            let made = positions(case.coding.number(), &case.schema, &mut []);
+            assert_eq!(made, [1, 0]);
+            scalgo::NotLawful.into()
+        }
+    })
 }
 
 /// The second program.
 pub fn second(case: &Case) -> Verdict {
-    reference::judge(
-        case.coding.number(),
-        &case.schema,
-        &case.message,
-        second_budget(case.budget),
-    )
+    reference::judge(case.lent(), &case.message, second_budget(case.budget))
 }
 
 /// The plain program, which decodes the schema at each call as the others do.

@@ -2,7 +2,7 @@
 
 use crate::cases::{self, Case, Expected};
 use crate::message::{Message, LIST_MAGIC};
-use crate::programs::{of_wrapper, second_budget};
+use crate::programs::{of_wrapper, positions, second_budget};
 use crate::schema::{
     plain, Record, Schema, Table, BOOL, ENUM, F32, F64, LIST, TABLE, TEXT, U16, U32, U64, U8,
 };
@@ -46,8 +46,30 @@ impl Task {
     }
 }
 
-/// One field, one text, many steps of a list.
+/// The table of positions, one field, one text, many steps of a list.
 const PARTS: &[fn() -> Task] = &[
+    || making_positions("M's schema", cases::small(Bits48)),
+    || making_positions("one table of 64 members", cases::one_table()),
+    || making_positions("the largest schema", cases::table_late()),
+    || field_of("a field of M", cases::small(Bits48), &[0], 3),
+    || field_of("member 0 of 64, one table", cases::one_table(), &[0], 1),
+    || field_of("member 63 of 64, one table", cases::one_table(), &[63], 63),
+    || {
+        field_of(
+            "member 0 of 64, the largest schema",
+            cases::table_late(),
+            &[0, 0, 0],
+            1,
+        )
+    },
+    || {
+        field_of(
+            "member 63 of 64, the largest schema",
+            cases::table_late(),
+            &[0, 0, 63],
+            63,
+        )
+    },
     field_at_depth_5,
     text_at_depth_5,
     field_by_the_largest_schema,
@@ -61,6 +83,7 @@ const STORED: &[fn() -> Case] = &[|| cases::unions_in_place(Bits48)];
 
 /// Messages that are read to a sheet, and whose sheets are written.
 const WHOLES: &[fn() -> Case] = &[
+    || cases::small(Bits48),
     || cases::texts(Bits48),
     || cases::texts(Bits32),
     cases::every_kind,
@@ -180,20 +203,47 @@ fn field(name: String, case: Case, path: Vec<u32>, expected: u64) -> Task {
     let (same_case, same_path) = (case.clone(), path.clone());
     let ours = move || {
         let path = black_box(&path);
-        match scalgo::field(case.coding, &case.schema, &case.message, path) {
+        match case.by().field(&case.message, path) {
             scalgo::Answer::Number { bits, .. } => numbers(&[u64::from(bits != expected), bits]),
             other => panic!("{other:?}"),
         }
     };
     let second = move || {
         let (case, path) = (&same_case, black_box(&same_path));
-        match reference::field(case.coding.number(), &case.schema, &case.message, path) {
+        match reference::field(case.lent(), &case.message, path) {
             reference::Answer::Number { bits, .. } => numbers(&[u64::from(bits != expected), bits]),
             other => panic!("{other:?}"),
         }
     };
     Task {
         name,
+        bytes: 0,
+        ours: Box::new(ours),
+        second: Box::new(second),
+    }
+}
+
+fn field_of(name: &str, case: Case, path: &[u32], expected: u64) -> Task {
+    field(name.to_string(), case, path.to_vec(), expected)
+}
+
+/// The table of a schema made. The library is lent its output; the second program makes its own.
+fn making_positions(name: &str, case: Case) -> Task {
+    let room = case.by().positions().len();
+    let output = RefCell::new(vec![0; room]);
+    let same_case = case.clone();
+    let ours = move || {
+        let mut output = output.borrow_mut();
+        let made = positions(case.coding.number(), &case.schema, &mut output);
+        outcome(&made, &output)
+    };
+    let second = move || {
+        let coding = same_case.coding.number();
+        let (number, table) = reference::positions(coding, &same_case.schema, room);
+        outcome(&[u64::from(number), table.len() as u64], &table)
+    };
+    Task {
+        name: format!("making the positions of {name}"),
         bytes: 0,
         ours: Box::new(ours),
         second: Box::new(second),
@@ -208,14 +258,12 @@ fn field_at_depth_5() -> Task {
 
 fn field_by_the_largest_schema() -> Task {
     let name = "a field at depth 3 by the largest schema";
-    let case = cases::tables_late(Bits48);
-    field(name.to_string(), case, vec![0, 50_000, 0], 50_000)
+    field_of(name, cases::tables_late(Bits48), &[0, 50_000, 0], 50_000)
 }
 
 fn field_of_a_direct_element() -> Task {
     let name = "a field of one of 100,000 direct elements";
-    let case = cases::direct_tables();
-    field(name.to_string(), case, vec![0, 50_000, 0], 50_000)
+    field_of(name, cases::direct_tables(), &[0, 50_000, 0], 50_000)
 }
 
 fn text_at_depth_5() -> Task {
@@ -223,14 +271,14 @@ fn text_at_depth_5() -> Task {
     let same_case = case.clone();
     let ours = move || {
         let path = black_box(&path);
-        match scalgo::text(case.coding, &case.schema, &case.message, path) {
+        match case.by().text(&case.message, path) {
             Some(text) => numbers(&[0, text.len() as u64, u64::from(text[0])]),
             None => panic!("no text"),
         }
     };
     let second = move || {
         let (case, path) = (&same_case, black_box(&path));
-        match reference::text(case.coding.number(), &case.schema, &case.message, path) {
+        match reference::text(case.lent(), &case.message, path) {
             Some((at, length)) => numbers(&[0, length as u64, u64::from(case.message[at])]),
             None => panic!("no text"),
         }
@@ -257,7 +305,7 @@ fn list_of_direct_elements() -> Task {
 fn list_reader(name: &str, case: Case) -> Task {
     let same_case = case.clone();
     let ours = move || {
-        let list = scalgo::list(case.coding, &case.schema, &case.message, &[0]);
+        let list = case.by().list(&case.message, &[0]);
         let list = list.expect("a list");
         let places = list.map(|answer| match answer {
             scalgo::Answer::Object { place, .. } => place,
@@ -267,8 +315,7 @@ fn list_reader(name: &str, case: Case) -> Task {
     };
     let second = move || {
         let (case, path) = (&same_case, [0]);
-        let coding = case.coding.number();
-        let reader = reference::ListReader::new(coding, &case.schema, &case.message, &path);
+        let reader = reference::ListReader::new(case.lent(), &case.message, &path);
         let mut reader = reader.unwrap_or_else(|refusal| panic!("{refusal:?}"));
         let mut sum = 0;
         while let reference::Answer::Object { place, .. } = reader.step() {
@@ -302,9 +349,8 @@ const ROOM: usize = 16_777_215;
 
 /// The sheet of a message.
 fn sheet_of(case: &Case) -> Vec<u8> {
-    let coding = case.coding.number();
     let budget = reference::Budget::LARGEST;
-    reference::read(coding, &case.schema, &case.message, budget, ROOM).1
+    reference::read(case.lent(), &case.message, budget, ROOM).1
 }
 
 /// A message to its sheet. The library is lent its output; the second program makes its own.
@@ -318,16 +364,14 @@ fn read(case: Case) -> Task {
     let same_case = case.clone();
     let ours = move || {
         let mut output = output.borrow_mut();
-        let (schema, message) = (&case.schema, &case.message);
-        let answer = scalgo::read(case.coding, schema, message, Budget::LARGEST, &mut output);
+        let answer = case.by().read(&case.message, Budget::LARGEST, &mut output);
         let number = u64::from(answer.verdict.number);
         outcome(&[number, answer.length as u64], &output[..answer.length])
     };
     let second = move || {
-        let (schema, message) = (&same_case.schema, &same_case.message);
-        let coding = same_case.coding.number();
         let budget = reference::Budget::LARGEST;
-        let (verdict, sheet) = reference::read(coding, schema, message, budget, room);
+        let (lent, message) = (same_case.lent(), &same_case.message);
+        let (verdict, sheet) = reference::read(lent, message, budget, room);
         outcome(&[u64::from(verdict.number), sheet.len() as u64], &sheet)
     };
     Task {
@@ -350,16 +394,15 @@ fn read_refused(case: Case) -> Task {
     };
     let ours = move || {
         let mut output = output.borrow_mut();
-        let (schema, message) = (&case.schema, &case.message);
-        let answer = scalgo::read(case.coding, schema, message, case.budget, &mut output);
+        let answer = case.by().read(&case.message, case.budget, &mut output);
         let summed = SUMMED.with_borrow(|summed| *summed);
         let written = answer.length > 0 || summed && output.iter().any(|byte| *byte != KEPT);
         refusal(&case.expected, of_wrapper(answer.verdict), written)
     };
     let second = move || {
-        let (schema, message) = (&same_case.schema, &same_case.message);
-        let (coding, budget) = (same_case.coding.number(), second_budget(same_case.budget));
-        let (verdict, sheet) = reference::read(coding, schema, message, budget, ROOM);
+        let (lent, message) = (same_case.lent(), &same_case.message);
+        let budget = second_budget(same_case.budget);
+        let (verdict, sheet) = reference::read(lent, message, budget, ROOM);
         refusal(&same_case.expected, verdict, !sheet.is_empty())
     };
     Task {
@@ -382,7 +425,7 @@ fn write(case: Case) -> Task {
     let (same_case, same_sheet) = (case.clone(), sheet.clone());
     let ours = move || {
         let mut output = output.borrow_mut();
-        let answer = scalgo::write(case.coding, &case.schema, &sheet, &mut output);
+        let answer = case.by().write(&sheet, &mut output);
         let number = u64::from(answer.number);
         outcome(&[number, answer.length as u64], &output[..answer.length])
     };

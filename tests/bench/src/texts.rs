@@ -16,7 +16,7 @@ use std::str::from_utf8;
 /// Messages under one schema, and the texts that are in them.
 pub struct Batch {
     pub name: String,
-    schema: Vec<u8>,
+    schema: scalgo::Schema,
     /// The messages, one behind the other.
     bytes: Vec<u8>,
     messages: Vec<Range<usize>>,
@@ -36,7 +36,7 @@ impl Batch {
     fn new(name: &str, schema: &Schema) -> Batch {
         Batch {
             name: name.to_string(),
-            schema: schema.pack(),
+            schema: scalgo::Schema::new(Bits48, schema.pack()).expect("a lawful schema"),
             bytes: Vec::new(),
             messages: Vec::new(),
             texts: Vec::new(),
@@ -72,15 +72,19 @@ impl Batch {
 
     pub fn ours(&self) -> Judged {
         self.judged(|message| {
-            let verdict = scalgo::judge(Bits48, &self.schema, message, Budget::LARGEST);
+            let verdict = self.schema.judge(message, Budget::LARGEST);
             (verdict.number, verdict.visits)
         })
     }
 
     fn second(&self) -> Judged {
+        let lent = reference::Lent {
+            coding: Bits48.number(),
+            schema: self.schema.bytes(),
+            positions: self.schema.positions(),
+        };
         self.judged(|message| {
-            let budget = reference::Budget::LARGEST;
-            let verdict = reference::judge(Bits48.number(), &self.schema, message, budget);
+            let verdict = reference::judge(lent, message, reference::Budget::LARGEST);
             (verdict.number, verdict.visits)
         })
     }
@@ -98,13 +102,13 @@ impl Batch {
     fn plain_whole(&self) -> Judged {
         let budget = plain_budget(Budget::LARGEST);
         self.judged(|message| {
-            let verdict = plain::judge(Bits48.number(), &self.schema, message, budget);
+            let verdict = plain::judge(Bits48.number(), self.schema.bytes(), message, budget);
             (verdict.number, verdict.visits)
         })
     }
 
     fn decoded(&self) -> plain::Schema {
-        plain::Schema::new(Bits48.number(), &self.schema).expect("a lawful schema")
+        plain::Schema::new(Bits48.number(), self.schema.bytes()).expect("a lawful schema")
     }
 
     /// How many texts the standard library accepts.

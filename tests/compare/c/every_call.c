@@ -91,6 +91,15 @@ static void print_bytes(const uint8_t *bytes, size_t count) {
     printf("\n");
 }
 
+/* The table of positions of a schema, with no bytes where the schema is not lawful. */
+static uint8_t table[SCALGO_POSITIONS_ROOM];
+
+static size_t table_of(uint32_t coding, const uint8_t *schema, size_t schema_len) {
+    uint64_t length = 99;
+    scalgo_positions(coding, schema, schema_len, table, sizeof table, &length);
+    return (size_t)length;
+}
+
 /* The message with one byte changed. */
 static const uint8_t *changed(const struct coded *in, size_t at, uint8_t byte) {
     static uint8_t copy[sizeof message_48];
@@ -109,7 +118,9 @@ static void print_verdict(uint32_t answered, const scalgo_verdict *verdict) {
 static void judge_within(uint32_t coding, const uint8_t *schema, size_t schema_len,
                          const uint8_t *bytes, size_t len, uint32_t visits, uint64_t content) {
     scalgo_verdict verdict = {99, 99, 99, 99, 99};
-    uint32_t number = scalgo_judge(coding, schema, schema_len, bytes, len, visits, content, &verdict);
+    size_t table_len = table_of(coding, schema, schema_len);
+    uint32_t number = scalgo_judge(coding, schema, schema_len, table, table_len, bytes, len, visits,
+                                   content, &verdict);
     print_verdict(number, &verdict);
 }
 
@@ -135,11 +146,14 @@ static void judges(const struct coded *in) {
 /* One field and, where it is a text, its part. */
 static void field(uint32_t coding, const uint8_t *schema, size_t schema_len, const uint8_t *bytes,
                   size_t len, const uint32_t *path, size_t path_len) {
+    size_t table_len = table_of(coding, schema, schema_len);
     uint64_t n[4] = {99, 99, 99, 99};
-    n[0] = scalgo_field(coding, schema, schema_len, bytes, len, path, path_len, &n[1], &n[2], &n[3]);
+    n[0] = scalgo_field(coding, schema, schema_len, table, table_len, bytes, len, path, path_len,
+                        &n[1], &n[2], &n[3]);
     print_numbers(n, 4);
     uint64_t part[3] = {99, 99, 99};
-    part[0] = scalgo_text(coding, schema, schema_len, bytes, len, path, path_len, &part[1], &part[2]);
+    part[0] = scalgo_text(coding, schema, schema_len, table, table_len, bytes, len, path, path_len,
+                          &part[1], &part[2]);
     print_numbers(part, 3);
     if (part[0] == 1) {
         print_bytes(bytes + part[1], (size_t)part[2]);
@@ -170,8 +184,9 @@ static void list_from(uint32_t coding, const uint8_t *schema, size_t schema_len,
     static const uint32_t path[] = {0};
     uint64_t cases[4 * 4 + 1];
     memset(cases, 0x55, sizeof cases);
-    uint64_t count = scalgo_list(coding, schema, schema_len, bytes, len, path, 1, from, cases,
-                                 4 * steps + 1);
+    size_t table_len = table_of(coding, schema, schema_len);
+    uint64_t count = scalgo_list(coding, schema, schema_len, table, table_len, bytes, len, path, 1,
+                                 from, cases, 4 * steps + 1);
     print_numbers(&count, 1);
     for (size_t i = 0; i < steps; i++) {
         print_numbers(cases + 4 * i, 4);
@@ -193,8 +208,9 @@ static void read_with(uint32_t coding, const struct coded *in, uint32_t visits, 
     scalgo_verdict verdict = {99, 99, 99, 99, 99};
     uint64_t length = 99;
     memset(sheet, 0xEE, sizeof sheet);
-    uint32_t number = scalgo_read(coding, newer, sizeof newer, in->message, in->message_len, visits,
-                                  content, sheet, room, &verdict, &length);
+    size_t table_len = table_of(coding, newer, sizeof newer);
+    uint32_t number = scalgo_read(coding, newer, sizeof newer, table, table_len, in->message,
+                                  in->message_len, visits, content, sheet, room, &verdict, &length);
     print_verdict(number, &verdict);
     print_numbers(&length, 1);
     print_bytes(sheet, sizeof sheet);
@@ -282,10 +298,72 @@ static void no_texts(const struct coded *in) {
     write_with(in->coding, no_text, sizeof no_text, 43);
 }
 
+static void positions_with(uint32_t coding, const uint8_t *schema, size_t schema_len, size_t room) {
+    uint8_t made[26];
+    uint64_t length = 99;
+    memset(made, 0xEE, sizeof made);
+    uint32_t number = scalgo_positions(coding, schema, schema_len, made, room, &length);
+    uint64_t numbers[2] = {number, length};
+    print_numbers(numbers, 2);
+    print_bytes(made, sizeof made);
+}
+
+/* The table with room to spare, just enough, a byte less and none; and with no room of a schema that
+ * is not lawful. */
+static void positions(const struct coded *in) {
+    static const size_t rooms[] = {26, 24, 23, 0};
+    for (size_t i = 0; i < 4; i++) {
+        positions_with(in->coding, newer, sizeof newer, rooms[i]);
+    }
+    positions_with(in->coding, in->message, in->message_len, 0);
+}
+
+/* Every function with a table lent, a message of one byte and a path that is too long: which of their
+ * refusals comes first. */
+static void lend(uint32_t coding, const uint8_t *lent, size_t lent_len) {
+    static const uint32_t path[97] = {0};
+    static const uint8_t byte[] = {0};
+    uint64_t n[4] = {99, 99, 99, 99}, part[3] = {99, 99, 99}, list[5] = {99, 99, 99, 99, 99};
+    uint8_t no_room[1];
+    uint64_t length = 99;
+    scalgo_verdict verdict = {99, 99, 99, 99, 99};
+    uint32_t number = scalgo_judge(coding, newer, sizeof newer, lent, lent_len, byte, 1, 2,
+                                   SCALGO_ALL_CONTENT, &verdict);
+    print_verdict(number, &verdict);
+    n[0] = scalgo_field(coding, newer, sizeof newer, lent, lent_len, byte, 1, path, 97, &n[1], &n[2],
+                        &n[3]);
+    print_numbers(n, 4);
+    part[0] = scalgo_text(coding, newer, sizeof newer, lent, lent_len, byte, 1, path, 97, &part[1],
+                          &part[2]);
+    print_numbers(part, 3);
+    list[0] = scalgo_list(coding, newer, sizeof newer, lent, lent_len, byte, 1, path, 97, 0, list + 1, 4);
+    print_numbers(list, 5);
+    number = scalgo_read(coding, newer, sizeof newer, lent, lent_len, byte, 1, 2, SCALGO_ALL_CONTENT,
+                         no_room, 0, &verdict, &length);
+    print_verdict(number, &verdict);
+    print_numbers(&length, 1);
+}
+
+/* The schema's own table; then one with a bit changed, a byte longer, a byte shorter, none, and the
+ * other coding's. */
+static void lent_tables(const struct coded *in) {
+    uint32_t other = in->coding == SCALGO_CODING_48 ? SCALGO_CODING_32 : SCALGO_CODING_48;
+    size_t len = table_of(in->coding, newer, sizeof newer);
+    lend(in->coding, table, len);
+    table[len - 1] ^= 1;
+    lend(in->coding, table, len);
+    table[len - 1] ^= 1;
+    lend(in->coding, table, len + 1);
+    lend(in->coding, table, len - 1);
+    lend(in->coding, table, 0);
+    lend(in->coding, table, table_of(other, newer, sizeof newer));
+}
+
 /* Under a number that is no coding's no schema is lawful. */
 static void no_coding(uint32_t coding) {
     static const uint32_t path[] = {1};
     const struct coded *in = &codings[0];
+    positions_with(coding, newer, sizeof newer, 26);
     judge(coding, newer, sizeof newer, in->message, in->message_len, 2);
     field(coding, newer, sizeof newer, in->message, in->message_len, path, 1);
     list_from(coding, texts, sizeof texts, in->list, in->list_len, 0, 2);
@@ -330,6 +408,8 @@ int main(void) {
         unions(&codings[i]);
         members(&codings[i]);
         no_texts(&codings[i]);
+        positions(&codings[i]);
+        lent_tables(&codings[i]);
     }
     no_coding(40);
     moving();

@@ -25,7 +25,7 @@ struct Message {
 impl Message {
     fn new(coding: Coding, length: usize) -> Message {
         let held = HeldText::new(coding, Way::Member, 0, &vec![b'x'; length]);
-        let schema = reference::Schema::parse(held.schema.coding, &held.schema.bytes);
+        let schema = reference::Schema::parse(held.schema.coding(), held.schema.bytes());
         Message {
             held,
             schema: schema.expect("a lawful schema"),

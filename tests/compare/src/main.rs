@@ -7,17 +7,18 @@
 //! and the second program side by side, or those of one round of a run with
 //! `--round K`; `compare plain` does so with the plain Rust program and the
 //! second. `compare fields`, `reads`, `writes` and `clears` put N calls to both,
-//! `compare moves` N stored messages that are moved over to a schema without unions
-//! in place (of the 48-bit coding alone), `compare texts` N texts in every way that
-//! one is held, and `compare all` does each of these with N, and the laws on the
-//! library; its last lines say how many answers of each sort were not refusal 1.
+//! `compare positions` makes and lends N tables of positions, `compare moves` moves
+//! N stored messages over to a schema without unions in place (of the 48-bit coding
+//! alone), `compare texts` puts N texts in every way that one is held, and
+//! `compare all` does each of these with N, and the laws on the library; its last
+//! lines say how many answers of each sort were not refusal 1.
 //! `compare utf8 --cases N --seed S` judges a message with one text by both, and
 //! asks Rust's standard library besides: every text of up to three bytes, N random
 //! ones of four, 10,000,000 if N is not said, and a tenth as many longer ones.
 //! `compare cases FOLDER` writes the stored cases into the folder of their
 //! crate, and `compare names` says what each of them is.
 
-use compare::calls::{clears, fields, lists, moves, reads, texts, writes};
+use compare::calls::{clears, fields, lists, moves, positions, reads, texts, writes};
 use compare::calls::{LibraryCalls, SecondCalls};
 use compare::coding::Coding;
 use compare::counts::Counts;
@@ -33,7 +34,7 @@ use std::process::ExitCode;
 
 const USAGE: &str = "usage: compare laws [--library] [--cases N] [--seed S] [--case K]
        compare judge|plain [--cases N] [--seed S] [--round K]
-       compare fields|reads|writes|clears|moves|texts|all [--cases N] [--seed S]
+       compare fields|reads|writes|positions|clears|moves|texts|all [--cases N] [--seed S]
        compare utf8 [--cases N] [--seed S]
        compare cases FOLDER
        compare names
@@ -119,13 +120,15 @@ fn judges(judge: &dyn Judge, asked: &Asked) -> Result<Tally, String> {
     judging::run(judge, &Second, coding, seed, asked.cases())
 }
 
-/// The C interface's calls put to both: `fields`, `reads`, `writes`, `clears`, `moves` or `texts`.
+/// The C interface's calls put to both: `fields`, `reads`, `writes`, `positions`,
+/// `clears`, `moves` or `texts`.
 fn calls(sort: &str, asked: &Asked) -> Result<Counts, String> {
     let (coding, seed, cases) = (asked.coding, asked.seed, asked.cases());
     match sort {
         "fields" => fields::run(&LibraryCalls, &SecondCalls, coding, seed, cases),
         "reads" => reads::run(&LibraryCalls, &SecondCalls, coding, seed, cases),
         "writes" => writes::run(&LibraryCalls, &SecondCalls, coding, seed, cases),
+        "positions" => positions::run(&LibraryCalls, &SecondCalls, coding, seed, cases),
         "clears" => clears::run(&LibraryCalls, &SecondCalls, coding, seed, cases),
         "moves" if coding.is_older() => Err(USAGE.to_string()),
         "moves" => moves::run(&LibraryCalls, &SecondCalls, seed, cases),
@@ -145,10 +148,11 @@ fn utf8(asked: &Asked) -> Result<String, String> {
 /// a tenth of as many cases.
 fn run_all(asked: &Asked) -> Result<String, String> {
     let tally = judges(&LibraryCalls, asked)?;
-    let [fields, reads, writes, clears, texts] = [
+    let [fields, reads, writes, positions, clears, texts] = [
         calls("fields", asked)?,
         calls("reads", asked)?,
         calls("writes", asked)?,
+        calls("positions", asked)?,
         calls("clears", asked)?,
         calls("texts", asked)?,
     ];
@@ -178,7 +182,8 @@ fn run_all(asked: &Asked) -> Result<String, String> {
             clears.answers[1],
         ),
     ];
-    let mut seen = format!("{tally}\n{fields}\n{reads}\n{writes}\n{clears}\n{moves}\n");
+    let mut seen =
+        format!("{tally}\n{fields}\n{reads}\n{writes}\n{positions}\n{clears}\n{moves}\n");
     seen += &format!("{texts}\n{laws}\n");
     for (sort, all, refused) in beyond {
         let beyond = all - refused;
@@ -207,7 +212,7 @@ fn run(words: &[String]) -> Result<String, String> {
         "laws" => run_laws(&asked),
         "judge" => Ok(judges(&LibraryCalls, &asked)?.to_string()),
         "plain" => Ok(judges(&Plain, &asked)?.to_string()),
-        "fields" | "reads" | "writes" | "clears" | "moves" | "texts" => {
+        "fields" | "reads" | "writes" | "positions" | "clears" | "moves" | "texts" => {
             Ok(calls(command, &asked)?.to_string())
         }
         "utf8" => utf8(&asked),

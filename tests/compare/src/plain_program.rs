@@ -29,11 +29,16 @@ impl Judge for Plain {
 
     fn judge(&self, schema: &Packed, message: &[u8], budget: Budget) -> Verdict {
         let budget = to_plain(budget);
-        of_plain(plain::judge(schema.coding, &schema.bytes, message, budget))
+        of_plain(plain::judge(
+            schema.coding(),
+            schema.bytes(),
+            message,
+            budget,
+        ))
     }
 
     fn judge_unpacked(&self, schema: &Packed, message: &[u8], budget: Budget) -> Option<Verdict> {
-        let schema = plain::Schema::new(schema.coding, &schema.bytes)?;
+        let schema = plain::Schema::new(schema.coding(), schema.bytes())?;
         Some(of_plain(schema.judge(message, to_plain(budget))))
     }
 }

@@ -62,7 +62,7 @@ impl Probe {
                 Outcome::Written(number, message)
             }
             Question::Clear { room } => {
-                let (number, cleared) = program.clear_unions(&schema.bytes, *room);
+                let (number, cleared) = program.clear_unions(schema.bytes(), *room);
                 Outcome::Cleared(number, cleared)
             }
             Question::Field { path } => Outcome::Field(program.field(schema, bytes, path)),
@@ -111,7 +111,7 @@ pub fn random_probes(coding: Coding, rng: &mut Rng) -> Vec<Probe> {
             question,
         });
     }
-    let length = packed.bytes.len();
+    let length = packed.bytes().len();
     for room in [length, length.saturating_sub(1), length + rng.below(9)] {
         probes.push(Probe {
             schema: packed.clone(),

@@ -2,6 +2,7 @@
 
 use crate::schema::Packed;
 pub use reference::{Answer, Budget, Verdict, NO_MEMBER};
+use scalgo::NotLawful;
 use std::cell::RefCell;
 
 /// Enough for all but walks that grow without end, since damage may share objects.
@@ -97,9 +98,10 @@ pub trait Relations {
 /// The proved library, called through its Rust wrapper.
 pub struct Library;
 
-/// The wrapper's coding; it takes no number that is none's.
-fn coding(schema: &Packed) -> scalgo::Coding {
-    scalgo::Coding::of(schema.coding).expect("a number of a coding")
+/// The wrapper's schema, where it is lawful; the wrapper takes no number that is no coding's.
+fn by(schema: &Packed) -> Result<scalgo::Schema, NotLawful> {
+    let coding = scalgo::Coding::of(schema.coding()).expect("a number of a coding");
+    scalgo::Schema::new(coding, schema.bytes())
 }
 
 impl Judge for Library {
@@ -108,13 +110,8 @@ impl Judge for Library {
     }
 
     fn judge(&self, schema: &Packed, message: &[u8], budget: Budget) -> Verdict {
-        let budget = to_wrapper(budget);
-        of_wrapper(scalgo::judge(
-            coding(schema),
-            &schema.bytes,
-            message,
-            budget,
-        ))
+        let judged = |schema: scalgo::Schema| schema.judge(message, to_wrapper(budget));
+        of_wrapper(by(schema).map_or_else(NotLawful::into, judged))
     }
 }
 
@@ -196,18 +193,23 @@ impl Program for Library {
         budget: Budget,
         room: usize,
     ) -> (Verdict, Vec<u8>) {
-        let budget = to_wrapper(budget);
-        let (verdict, sheet) = with_room(room, |sheet| {
-            let answer = scalgo::read(coding(schema), &schema.bytes, message, budget, sheet);
-            (answer.verdict, answer.length)
+        let (verdict, sheet) = with_room(room, |sheet| match by(schema) {
+            Ok(schema) => {
+                let answer = schema.read(message, to_wrapper(budget), sheet);
+                (answer.verdict, answer.length)
+            }
+            Err(refusal) => (refusal.into(), 0),
         });
         (of_wrapper(verdict), sheet)
     }
 
     fn write(&self, schema: &Packed, sheet: &[u8], room: usize) -> (u32, Vec<u8>) {
-        with_room(room, |message| {
-            let answer = scalgo::write(coding(schema), &schema.bytes, sheet, message);
-            (answer.number, answer.length)
+        with_room(room, |message| match by(schema) {
+            Ok(schema) => {
+                let answer = schema.write(sheet, message);
+                (answer.number, answer.length)
+            }
+            Err(_) => (NotLawful::NUMBER, 0),
         })
     }
 
@@ -219,11 +221,13 @@ impl Program for Library {
     }
 
     fn field(&self, schema: &Packed, message: &[u8], path: &[u32]) -> Answer {
-        answer(scalgo::field(coding(schema), &schema.bytes, message, path))
+        let field = |schema: scalgo::Schema| schema.field(message, path);
+        answer(by(schema).map_or_else(NotLawful::into, field))
     }
 
     fn text(&self, schema: &Packed, message: &[u8], path: &[u32]) -> Option<Vec<u8>> {
-        scalgo::text(coding(schema), &schema.bytes, message, path).map(<[u8]>::to_vec)
+        let text = by(schema).ok()?.text(message, path);
+        text.map(<[u8]>::to_vec)
     }
 
     fn list_steps(
@@ -233,7 +237,8 @@ impl Program for Library {
         path: &[u32],
         steps: usize,
     ) -> Result<Vec<Answer>, Answer> {
-        let list = scalgo::list(coding(schema), &schema.bytes, message, path).map_err(answer)?;
+        let wrapped = by(schema).map_err(|refusal| answer(refusal.into()))?;
+        let list = wrapped.list(message, path).map_err(answer)?;
         let mut answers: Vec<Answer> = list.take(steps).map(answer).collect();
         // The iterator has an end where the list reader says 15 at the list.
         if let Answer::Object { place, .. } = self.field(schema, message, path) {
@@ -252,11 +257,11 @@ impl Judge for Second {
     }
 
     fn judge(&self, schema: &Packed, message: &[u8], budget: Budget) -> Verdict {
-        reference::judge(schema.coding, &schema.bytes, message, budget)
+        reference::judge(schema.lent(), message, budget)
     }
 
     fn judge_unpacked(&self, schema: &Packed, message: &[u8], budget: Budget) -> Option<Verdict> {
-        let schema = reference::Schema::parse(schema.coding, &schema.bytes)?;
+        let schema = reference::Schema::parse(schema.coding(), schema.bytes())?;
         Some(reference::judge_parsed(&schema, message, budget))
     }
 }
@@ -269,11 +274,11 @@ impl Program for Second {
         budget: Budget,
         room: usize,
     ) -> (Verdict, Vec<u8>) {
-        reference::read(schema.coding, &schema.bytes, message, budget, room)
+        reference::read(schema.lent(), message, budget, room)
     }
 
     fn write(&self, schema: &Packed, sheet: &[u8], room: usize) -> (u32, Vec<u8>) {
-        reference::write(schema.coding, &schema.bytes, sheet, room)
+        reference::write(schema.coding(), schema.bytes(), sheet, room)
     }
 
     fn clear_unions(&self, schema: &[u8], room: usize) -> (u32, Vec<u8>) {
@@ -281,11 +286,11 @@ impl Program for Second {
     }
 
     fn field(&self, schema: &Packed, message: &[u8], path: &[u32]) -> Answer {
-        reference::field(schema.coding, &schema.bytes, message, path)
+        reference::field(schema.lent(), message, path)
     }
 
     fn text(&self, schema: &Packed, message: &[u8], path: &[u32]) -> Option<Vec<u8>> {
-        let (start, length) = reference::text(schema.coding, &schema.bytes, message, path)?;
+        let (start, length) = reference::text(schema.lent(), message, path)?;
         Some(message[start..start + length].to_vec())
     }
 
@@ -296,25 +301,25 @@ impl Program for Second {
         path: &[u32],
         steps: usize,
     ) -> Result<Vec<Answer>, Answer> {
-        let mut reader = reference::ListReader::new(schema.coding, &schema.bytes, message, path)?;
+        let mut reader = reference::ListReader::new(schema.lent(), message, path)?;
         Ok((0..steps).map(|_| reader.step()).collect())
     }
 }
 
 impl Relations for Second {
     fn lawful(&self, schema: &Packed) -> bool {
-        reference::lawful(schema.coding, &schema.bytes)
+        reference::lawful(schema.coding(), schema.bytes())
     }
 
     fn appends(&self, older: &Packed, newer: &Packed) -> bool {
-        reference::appends(older.coding, &older.bytes, &newer.bytes)
+        reference::appends(older.coding(), older.bytes(), newer.bytes())
     }
 
     fn without_appended(&self, older: &Packed, newer: &Packed, sheet: &[u8]) -> Option<Vec<u8>> {
-        reference::without_appended(older.coding, &older.bytes, &newer.bytes, sheet)
+        reference::without_appended(older.coding(), older.bytes(), newer.bytes(), sheet)
     }
 
     fn with_added(&self, older: &Packed, newer: &Packed, sheet: &[u8]) -> Option<Vec<u8>> {
-        reference::with_added(older.coding, &older.bytes, &newer.bytes, sheet)
+        reference::with_added(older.coding(), older.bytes(), newer.bytes(), sheet)
     }
 }

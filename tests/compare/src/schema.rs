@@ -91,25 +91,68 @@ pub struct Table {
     pub members: Vec<Record>,
 }
 
-/// A packed schema, lawful or not, and the number of the coding it is used under.
+/// A packed schema, lawful or not, the number of the coding it is used under, and the
+/// table of positions lent with it.
 #[derive(Clone, Debug, PartialEq, Eq)]
 pub struct Packed {
-    pub coding: u32,
-    pub bytes: Vec<u8>,
+    coding: u32,
+    bytes: Vec<u8>,
+    positions: Vec<u8>,
 }
 
 impl Packed {
-    /// These bytes under a coding.
+    /// These bytes under a coding, with their own table.
     pub fn new(coding: Coding, bytes: &[u8]) -> Packed {
+        Packed::made(coding.number(), bytes.to_vec())
+    }
+
+    /// With the table that the second program makes; it makes none of an unlawful schema.
+    fn made(coding: u32, bytes: Vec<u8>) -> Packed {
+        let (_, positions) = reference::positions(coding, &bytes, usize::MAX);
         Packed {
-            coding: coding.number(),
-            bytes: bytes.to_vec(),
+            coding,
+            bytes,
+            positions,
         }
     }
 
-    /// Other bytes under the same coding.
+    /// Other bytes under the same coding, with their own table.
     pub fn with(&self, bytes: Vec<u8>) -> Packed {
-        Packed { bytes, ..*self }
+        Packed::made(self.coding, bytes)
+    }
+
+    /// The same bytes under the coding of this number, if it is one's, with their own table.
+    pub fn under(&self, coding: u32) -> Packed {
+        Packed::made(coding, self.bytes.clone())
+    }
+
+    /// The same with a table that may be any.
+    pub fn lending(&self, positions: Vec<u8>) -> Packed {
+        Packed {
+            positions,
+            ..self.clone()
+        }
+    }
+
+    pub fn coding(&self) -> u32 {
+        self.coding
+    }
+
+    pub fn bytes(&self) -> &[u8] {
+        &self.bytes
+    }
+
+    pub fn positions(&self) -> &[u8] {
+        &self.positions
+    }
+
+    /// As the second program takes it.
+    pub fn lent(&self) -> reference::Lent<'_> {
+        reference::Lent {
+            coding: self.coding,
+            schema: &self.bytes,
+            positions: &self.positions,
+        }
     }
 }
 

@@ -105,17 +105,17 @@ pub fn breaking(coding: Coding, rng: &mut Rng, rule: Rule) -> Packed {
     if !break_counts(rng, &mut schema, rule) && !break_flags(rng, &mut schema, rule) {
         break_records(rng, &mut schema, rule);
     }
-    let mut packed = schema.pack();
-    let bytes = &mut packed.bytes;
+    let packed = schema.pack();
+    let mut bytes = packed.bytes().to_vec();
     match rule {
         Rule::BytesLeft => {
             let extra = rng.range(1, 9);
             bytes.extend(rng.bytes(extra));
         }
         Rule::BytesMissing => bytes.truncate(rng.below(bytes.len())),
-        _ => {}
+        _ => return packed,
     }
-    packed
+    packed.with(bytes)
 }
 
 fn grow<T: Clone>(rng: &mut Rng, things: &mut Vec<T>, thing: T) {
@@ -534,7 +534,7 @@ fn break_whole(rng: &mut Rng, schema: &mut Schema, rule: Rule) {
 
 /// Random damage to a packed schema; the result may still be lawful.
 pub fn damaged(rng: &mut Rng, packed: &Packed) -> Packed {
-    let mut out = packed.bytes.clone();
+    let mut out = packed.bytes().to_vec();
     for _ in 0..rng.range(1, 3) {
         if out.is_empty() {
             break;

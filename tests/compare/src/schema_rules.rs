@@ -40,9 +40,9 @@ impl Taker<'_> {
 /// Unpacks a schema; `None` when bytes are missing or left over, or there is no
 /// such coding. The rules are not judged.
 pub fn unpack(packed: &Packed) -> Option<Schema> {
-    let coding = Coding::of(packed.coding)?;
+    let coding = Coding::of(packed.coding())?;
     let mut taker = Taker {
-        bytes: &packed.bytes,
+        bytes: packed.bytes(),
     };
     let counts = taker.take::<4>()?;
     let mut schema = Schema {

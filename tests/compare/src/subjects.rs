@@ -144,7 +144,7 @@ pub fn some_schema(coding: Coding, rng: &mut Rng, recursive: usize) -> Schema {
 /// A schema made for the other coding than this one, under which it may not be lawful.
 pub fn made_for_the_other(coding: Coding, rng: &mut Rng) -> (Schema, Packed) {
     let schema = some_schema(coding.other(), rng, 10);
-    let packed = Packed::new(coding, &schema.pack().bytes);
+    let packed = Packed::new(coding, schema.pack().bytes());
     (schema, packed)
 }
 
@@ -308,10 +308,10 @@ impl Maker {
         let schema = schema_faults::damaged(rng, &self.packed);
         self.add_by(Sort::DamagedSchema, schema, message);
         let message = self.earlier(rng);
-        let mut schema = self.packed.clone();
-        let at = rng.below(schema.bytes.len());
-        schema.bytes[at] ^= 1 << rng.below(8);
-        self.add_by(Sort::DamagedSchema, schema, message);
+        let mut bytes = self.packed.bytes().to_vec();
+        let at = rng.below(bytes.len());
+        bytes[at] ^= 1 << rng.below(8);
+        self.add_by(Sort::DamagedSchema, self.packed.with(bytes), message);
         let message = self.earlier(rng);
         let coding = self.schema.coding;
         let rule = rng.pick(schema_faults::rules(coding));
@@ -326,10 +326,9 @@ impl Maker {
         let message = message_gen::lay_out(&schema, rng, value, None).bytes;
         self.add_by(Sort::OtherCoding, packed, message);
         if rng.one_in(8) {
-            let coding = no_coding(rng);
-            let bytes = self.packed.bytes.clone();
+            let schema = self.packed.under(no_coding(rng));
             let message = self.earlier(rng);
-            self.add_by(Sort::NoCoding, Packed { coding, bytes }, message);
+            self.add_by(Sort::NoCoding, schema, message);
         }
     }
 }

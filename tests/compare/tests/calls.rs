@@ -1,10 +1,10 @@
 //! The library's C interface and the second program side by side: the numbers
 //! of every call, and every output before and after it.
 //!
-//! A longer run: `compare all --cases 10000000 --seed S`, or `fields`, `reads`
-//! or `writes` alone, and with `--coding 32` under the older coding.
+//! A longer run: `compare all --cases 10000000 --seed S`, or `fields`, `reads`,
+//! `writes` or `positions` alone, and with `--coding 32` under the older coding.
 
-use compare::calls::{fields, lists, reads, writes, LibraryCalls, SecondCalls};
+use compare::calls::{fields, lists, positions, reads, writes, LibraryCalls, SecondCalls};
 use compare::coding::Coding;
 use compare::counts::Counts;
 
@@ -321,4 +321,60 @@ fn writing_a_message() {
 #[test]
 fn writing_a_message_under_32_bits() {
     writes_agree(Coding::Bits32);
+}
+
+const TABLES: [(&str, u64); 32] = [
+    (positions::MADE, 90_000),
+    ("schemas under no coding", 300),
+    ("schemas of no members", 50),
+    ("schemas of 1 to 63 members", 5000),
+    ("schemas of 64 to 999 members", 20),
+    ("schemas of 1000 members or more", 20),
+    ("room: exact, answer 0", 10_000),
+    ("room: larger, answer 0", 10_000),
+    ("room: none, answer 0", 50),
+    ("room: none, answer 14", 10_000),
+    ("room: one less, answer 14", 10_000),
+    ("room: some less, answer 14", 10_000),
+    ("room: some, answer 1", 5000),
+    ("room: none, answer 1", 5000),
+    (positions::LENT, 300_000),
+    ("lent: own", 50_000),
+    ("lent: own, schema not lawful", 5000),
+    ("lent: own, a path too long", 2000),
+    ("lent: another that is the same", 1000),
+    ("lent: one bit changed", 10_000),
+    ("lent: one byte longer", 5000),
+    ("lent: one byte shorter", 5000),
+    ("lent: empty", 5000),
+    ("lent: the other coding's", 1000),
+    ("lent: another schema's", 5000),
+    ("lent: two rows exchanged", 5000),
+    ("lent: rows more or less", 5000),
+    ("lent: random bytes", 5000),
+    ("lent: one byte longer, schema not lawful", 500),
+    ("lent: the other coding's, schema not lawful", 500),
+    ("lent: another schema's, schema not lawful", 500),
+    ("lent: random bytes, schema not lawful", 500),
+];
+
+/// With the schema's own table every answer of judging; 9 is none of the older coding's.
+fn tables_agree(coding: Coding) {
+    let outcome = positions::run(&LibraryCalls, &SecondCalls, coding, 1, 400_000);
+    let counts = reached(coding, outcome, &TABLES);
+    for number in [0, 2, 3, 4, 5, 6, 7, 8, 9, 10, 16, 17] {
+        let count = counts.answers[number];
+        let never = coding.is_older() && number == 9;
+        assert!(never || count > 500, "{count} answers {number}");
+    }
+}
+
+#[test]
+fn tables_of_positions() {
+    tables_agree(Coding::Bits48);
+}
+
+#[test]
+fn tables_of_positions_under_32_bits() {
+    tables_agree(Coding::Bits32);
 }

@@ -1,7 +1,7 @@
 //! The side by side of the C interface must catch programs that are wrong:
 //! each program here is the second program with one fault.
 
-use compare::calls::{clears, fields, moves, reads, texts, writes};
+use compare::calls::{clears, fields, moves, positions, reads, texts, writes};
 use compare::calls::{Calls, Read, SecondCalls, Writes};
 use compare::coding::{Coding, CODINGS};
 use compare::judging;
@@ -80,6 +80,19 @@ enum Flaw {
     ClearsUnlawful,
     ClearedByteAfter,
     ClearedOnRefusal,
+    TableByteAfter,
+    TableOnRefusal,
+    TableLengthOnRefusal,
+    TableRoomOneMore,
+    TableRoomFirst,
+    NoFlagIsZero,
+    BoolOf8Bits,
+    AnyTableTaken,
+    LongerTableTaken,
+    TableOfOtherCodingTaken,
+    OnlyFirstRowTried,
+    TableTriedAfterPath,
+    TableTriedAfterSize,
 }
 
 struct Flawed(Flaw);
@@ -127,8 +140,8 @@ impl Flawed {
         if self.0 == Flaw::NoDirectLists && has_direct_lists(schema) {
             return schema.with(Vec::new());
         }
-        let lawful = |coding: Coding| reference::lawful(coding.number(), &schema.bytes);
-        let given = Coding::of(schema.coding);
+        let lawful = |coding: Coding| reference::lawful(coding.number(), schema.bytes());
+        let given = Coding::of(schema.coding());
         let taken = match self.0 {
             Flaw::CodingIgnored => Some(Coding::Bits48),
             Flaw::AnyCodingTaken => given.or(Some(Coding::Bits48)),
@@ -138,8 +151,40 @@ impl Flawed {
             _ => given,
         };
         match taken {
-            Some(coding) => Packed::new(coding, &schema.bytes),
-            None => schema.clone(),
+            Some(coding) if taken != given => Packed::new(coding, schema.bytes()),
+            _ if self.takes_table(schema) => schema.under(schema.coding()),
+            _ => schema.clone(),
+        }
+    }
+
+    /// Whether the program takes the table lent for the schema's own.
+    fn takes_table(&self, schema: &Packed) -> bool {
+        let own = || schema.under(schema.coding());
+        let lent = schema.positions();
+        match self.0 {
+            Flaw::AnyTableTaken => true,
+            Flaw::LongerTableTaken => lent.starts_with(own().positions()),
+            Flaw::TableOfOtherCodingTaken => {
+                let other = Coding::of(schema.coding()).map(Coding::other);
+                other.is_some_and(|coding| schema.under(coding.number()).positions() == lent)
+            }
+            Flaw::OnlyFirstRowTried => {
+                let own = own();
+                let row = own.positions().len().min(12);
+                lent.len() == own.positions().len() && lent[..row] == own.positions()[..row]
+            }
+            _ => false,
+        }
+    }
+
+    /// The table with what the program changes in its rows.
+    fn rows(&self, table: &mut [u8]) {
+        for row in table.chunks_exact_mut(12) {
+            match self.0 {
+                Flaw::NoFlagIsZero if row[4..8] == [255; 4] => row[4..8].fill(0),
+                Flaw::BoolOf8Bits if row[8] == 1 => row[8] = 8,
+                _ => {}
+            }
         }
     }
 }
@@ -191,16 +236,39 @@ impl Judge for Flawed {
     }
 
     fn judge(&self, schema: &Packed, message: &[u8], budget: Budget) -> Verdict {
+        if self.0 == Flaw::TableTriedAfterSize && message.len() < 8 {
+            return SecondCalls.judge(&schema.under(schema.coding()), message, budget);
+        }
         let verdict = SecondCalls.judge(&self.taken(schema), message, self.budget(budget));
         self.judged(self.text_first(schema, message, verdict))
     }
 }
 
 impl Calls for Flawed {
+    fn positions(&self, schema: &Packed, table: &mut [u8]) -> [u64; 2] {
+        let schema = &self.taken(schema);
+        let answer = SecondCalls.positions(schema, table);
+        let [number, length] = answer;
+        self.rows(&mut table[..length as usize]);
+        match self.0 {
+            Flaw::TableByteAfter if number == 0 => change(table, length as usize),
+            Flaw::TableOnRefusal if number != 0 => change(table, 0),
+            Flaw::TableLengthOnRefusal if number == 14 => return [14, 12],
+            Flaw::TableRoomFirst if number == 1 && table.is_empty() => return [14, 0],
+            Flaw::TableRoomOneMore if number == 14 => {
+                let mut more = vec![0; table.len() + 1];
+                return SecondCalls.positions(schema, &mut more);
+            }
+            _ => {}
+        }
+        answer
+    }
+
     fn field(&self, schema: &Packed, message: &[u8], path: &[u32]) -> [u64; 4] {
         let schema = &self.taken(schema);
         let answer = SecondCalls.field(schema, message, path);
         match (self.0, answer) {
+            (Flaw::TableTriedAfterPath, [7, 1, ..]) if path.len() > 96 => [7, 15, 0, NONE],
             (Flaw::AlwaysAbsent, _) => [5, 0, 0, 0],
             (Flaw::UnusedNumberLeft, [0, value, ..]) => [0, value, 1, 0],
             (Flaw::HolderNotJudged, [7, 10, at, _]) => [7, 15, at, NONE],
@@ -313,7 +381,7 @@ impl Calls for Flawed {
 fn flawed_unions(flaw: Flaw, schema: &Packed, sheet: &[u8], room: usize) -> Option<(u32, Vec<u8>)> {
     let parsed = schema_rules::parse(schema)?;
     let value = sheet::decode(&parsed, sheet)?;
-    let stored = || reference::write_stored(schema.coding, &schema.bytes, sheet, room);
+    let stored = || reference::write_stored(schema.coding(), schema.bytes(), sheet, room);
     let held = value::has_union_in_place(&parsed, &value);
     match flaw {
         Flaw::UnionsWritten => Some(stored()),
@@ -364,7 +432,7 @@ fn flawed_cleared(flaw: Flaw, schema: &[u8]) -> Option<Vec<u8>> {
         Flaw::ClearsFirstTable => parsed.tables[0] = cleared.tables[0].clone(),
         _ => return None,
     }
-    Some(parsed.pack().bytes)
+    Some(parsed.pack().bytes().to_vec())
 }
 
 impl Writes for Flawed {
@@ -517,6 +585,23 @@ const IN_CLEARS: [(Flaw, bool); 7] = [
     (Flaw::ClearedOnRefusal, false),
 ];
 
+/// What the side by side of tables must catch.
+const IN_TABLES: [Flaw; 13] = [
+    Flaw::TableByteAfter,
+    Flaw::TableOnRefusal,
+    Flaw::TableLengthOnRefusal,
+    Flaw::TableRoomOneMore,
+    Flaw::TableRoomFirst,
+    Flaw::NoFlagIsZero,
+    Flaw::BoolOf8Bits,
+    Flaw::AnyTableTaken,
+    Flaw::LongerTableTaken,
+    Flaw::TableOfOtherCodingTaken,
+    Flaw::OnlyFirstRowTried,
+    Flaw::TableTriedAfterPath,
+    Flaw::TableTriedAfterSize,
+];
+
 /// What every side by side must catch.
 const IN_CODINGS: [Flaw; 3] = [
     Flaw::CodingIgnored,
@@ -647,5 +732,12 @@ fn clearing_and_moving_side_by_side_catch_flaws() {
 fn writes_side_by_side_catch_flaws() {
     catches("writes", &IN_WRITES, |flawed, coding| {
         writes::run(flawed, &SecondCalls, coding, 9, CALLS).map(drop)
+    });
+}
+
+#[test]
+fn tables_side_by_side_catch_flaws() {
+    catches("tables", &IN_TABLES, |flawed, coding| {
+        positions::run(flawed, &SecondCalls, coding, 9, CALLS).map(drop)
     });
 }

@@ -37,7 +37,7 @@ fn value() -> Value {
 fn own_model_gives_the_table_s_bytes() {
     let newer = schema_rules::parse(&newer()).expect("lawful");
     let older = schema_rules::parse(&older()).expect("lawful");
-    assert_eq!(newer.pack().bytes, NEWER);
+    assert_eq!(newer.pack().bytes(), NEWER);
     assert_eq!(canonical::message(&newer, &value()), MESSAGE);
     assert_eq!(sheet::encode(&newer, &value()), SHEET);
     assert_eq!(sheet::decode(&newer, &SHEET), Some(value()));

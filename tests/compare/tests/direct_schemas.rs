@@ -121,7 +121,7 @@ fn direct_lists_under_one_coding() {
             let schema = subjects::some_schema(coding, &mut rng, 10);
             assert!(schema_rules::lawful(&schema), "{}", schema.pack());
             let direct = direct_tables(&schema).next().is_some();
-            let other = Packed::new(Coding::Bits32, &schema.pack().bytes);
+            let other = Packed::new(Coding::Bits32, schema.pack().bytes());
             let lawful = schema_rules::parse(&other).is_some();
             assert!(!(direct && (lawful || coding.is_older())), "{other}");
         }

@@ -164,7 +164,7 @@ impl Program for Flawed {
         match self.0 {
             Flaw::WritesNothing => (number, Vec::new()),
             Flaw::UnionsWritten => {
-                reference::write_stored(schema.coding, &schema.bytes, sheet, room)
+                reference::write_stored(schema.coding(), schema.bytes(), sheet, room)
             }
             Flaw::SheetsOfNoTextUnlawful if number == 12 && has_no_text(schema, sheet) => {
                 (11, Vec::new())

@@ -261,11 +261,12 @@ fn the_largest_schema() {
         // 64 bools take eight bytes.
         assert_eq!(judged(&schema, &message, 1), accepted(1, 8));
         for extra in [1, 1000, 1 << 20] {
-            let mut packed = schema.pack();
-            packed.bytes.resize(packed.bytes.len() + extra, 0);
+            let packed = schema.pack();
+            let mut bytes = packed.bytes().to_vec();
+            bytes.resize(bytes.len() + extra, 0);
             let subject = Subject {
                 sort: Sort::BrokenSchema,
-                schema: packed,
+                schema: packed.with(bytes),
                 message: message.clone(),
             };
             let given = same_verdict(&LibraryCalls, &Second, &subject, Budget::LARGEST);

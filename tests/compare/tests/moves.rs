@@ -4,7 +4,7 @@
 //! A longer run: `compare clears --cases 10000000 --seed S`, with `--coding 32` of
 //! schemas made for the older coding, and `compare moves --cases 10000000 --seed S`.
 
-use compare::calls::{clears, moves, Calls, LibraryCalls, Output, SecondCalls, Writes};
+use compare::calls::{clears, moves, LibraryCalls, Output, SecondCalls, Writes};
 use compare::canonical;
 use compare::coding::{Coding, CODINGS};
 use compare::counts::Counts;
@@ -132,7 +132,8 @@ fn the_largest_schema() {
         let id = 0x8A0A_8A00 + table as u32;
         schema.tables.push(Table { id, members });
     }
-    let (packed, cleared) = (schema.pack().bytes, schema.cleared().pack().bytes);
+    let bytes = |schema: &Schema| schema.pack().bytes().to_vec();
+    let (packed, cleared) = (bytes(&schema), bytes(&schema.cleared()));
     let changed = packed.iter().zip(&cleared).filter(|(a, b)| a != b).count();
     assert_eq!(
         (packed.len(), changed),

@@ -60,7 +60,7 @@ fn library_answers_the_stored_cases_alike() {
     for case in stored::cases() {
         let budget = Budget::of_visits(case.budget);
         let given = LibraryCalls.judge(&case.schema, &case.message, budget);
-        let (coding, group) = (case.schema.coding, &case.group);
+        let (coding, group) = (case.schema.coding(), &case.group);
         assert_eq!(given, case.verdict(), "{coding}: {group}: {}", case.name);
     }
 }

@@ -101,15 +101,14 @@ fn schemas() {
     ] {
         let schema = packed(digits);
         assert_eq!(judged(&schema, &message), (1, 0, 0));
-        let lawful = Packed {
-            coding: 48,
-            ..schema
-        };
-        assert_eq!(judged(&lawful, &message), (6, 0x4345_0000_0008, 1));
+        assert_eq!(
+            judged(&schema.under(48), &message),
+            (6, 0x4345_0000_0008, 1)
+        );
     }
     // Neither is a coding, whatever the schema.
     for coding in [0, 31, 33, 47, 49, u32::MAX] {
-        let bytes = bytes(TEXT);
-        assert_eq!(judged(&Packed { coding, bytes }, &message), (1, 0, 0));
+        let schema = packed(TEXT).under(coding);
+        assert_eq!(judged(&schema, &message), (1, 0, 0));
     }
 }

@@ -39,8 +39,9 @@ fn texts_as_str() {
                 false => text_gen::no_text_of(&mut rng, length),
             };
             let held = HeldText::new(coding, way, 0, &bytes);
-            let (schema, message) = (&held.schema.bytes, &held.message);
-            let given = scalgo::text_str(of_wrapper, schema, message, &held.path);
+            let schema = scalgo::Schema::new(of_wrapper, held.schema.bytes());
+            let schema = schema.expect("a lawful schema");
+            let given = schema.text_str(&held.message, &held.path);
             assert_eq!(given, std::str::from_utf8(&bytes).ok(), "{way:?}");
         }
     }
@@ -52,14 +53,17 @@ const SCHEMA: &[u8] = b"\x00\x01\x00\x01\x00\x68\x00\x4C\x49\x43\x45\x01\x78\x00
 /// names no object.
 struct Texts {
     coding: Coding,
+    schema: scalgo::Schema,
     count: usize,
     message: Vec<u8>,
 }
 
 impl Texts {
     fn new(coding: Coding, count: usize) -> Texts {
+        let of_wrapper = scalgo::Coding::of(coding.number()).expect("a coding");
         let mut texts = Texts {
             coding,
+            schema: scalgo::Schema::new(of_wrapper, SCHEMA).expect("a lawful schema"),
             count,
             message: Vec::new(),
         };
@@ -110,8 +114,7 @@ impl Texts {
 
     /// The wrapper's iterator.
     fn list(&self) -> List<'_> {
-        let coding = scalgo::Coding::of(self.coding.number()).expect("a coding");
-        scalgo::list(coding, SCHEMA, &self.message, &[0]).expect("a list")
+        self.schema.list(&self.message, &[0]).expect("a list")
     }
 }
 

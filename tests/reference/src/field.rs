@@ -4,6 +4,7 @@ use crate::message::{
     element_lead, find, is_nan, judge_struct, member_lead, number, open, open_message, Lead,
     Object, Refusal, NO_ENUM,
 };
+use crate::positions::Lent;
 use crate::schema::{Kind, Schema, Target};
 
 /// "15 ... path over 96 numbers".
@@ -71,8 +72,8 @@ impl From<Object> for Answer {
 }
 
 /// Reads one field.
-pub fn field(coding: u32, schema: &[u8], message: &[u8], path: &[u32]) -> Answer {
-    match end_of(coding, schema, message, path) {
+pub fn field(lent: Lent, message: &[u8], path: &[u32]) -> Answer {
+    match end_of(lent, message, path) {
         Ok(End::Object(object, _)) => object.into(),
         Ok(End::Other(answer)) => answer,
         Err(refusal) => refusal.into(),
@@ -81,8 +82,8 @@ pub fn field(coding: u32, schema: &[u8], message: &[u8], path: &[u32]) -> Answer
 
 /// "texts and bytes can be had as a part of the message": where the part starts
 /// and its length, where the path leads to a text or bytes.
-pub fn text(coding: u32, schema: &[u8], message: &[u8], path: &[u32]) -> Option<(usize, usize)> {
-    match end_of(coding, schema, message, path) {
+pub fn text(lent: Lent, message: &[u8], path: &[u32]) -> Option<(usize, usize)> {
+    match end_of(lent, message, path) {
         Ok(End::Object(object, _)) => match object.target {
             Target::Text | Target::Bytes => Some((object.start, object.length)),
             Target::List(_) | Target::Table(_) | Target::Direct(_) => None,
@@ -91,8 +92,8 @@ pub fn text(coding: u32, schema: &[u8], message: &[u8], path: &[u32]) -> Option<
     }
 }
 
-fn end_of(coding: u32, schema: &[u8], message: &[u8], path: &[u32]) -> Result<End, Refusal> {
-    let schema = Schema::parse(coding, schema).ok_or(Refusal::new(1, 0))?;
+fn end_of(lent: Lent, message: &[u8], path: &[u32]) -> Result<End, Refusal> {
+    let schema = lent.parse().ok_or(Refusal::new(1, 0))?;
     let followed = Path {
         schema: &schema,
         message,
@@ -312,13 +313,8 @@ impl<'a> ListReader<'a> {
     /// "It starts from a path to a list whose elements are of kinds 13 to 17;
     /// a refused path gives its own refusal, any other answer is 15 at 0." "The
     /// list reader takes direct lists and lists of them too."
-    pub fn new(
-        coding: u32,
-        schema: &'a [u8],
-        message: &'a [u8],
-        path: &[u32],
-    ) -> Result<ListReader<'a>, Answer> {
-        let schema = Schema::parse(coding, schema).ok_or(Answer::from(Refusal::new(1, 0)))?;
+    pub fn new(lent: Lent, message: &'a [u8], path: &[u32]) -> Result<ListReader<'a>, Answer> {
+        let schema = lent.parse().ok_or(Answer::from(Refusal::new(1, 0)))?;
         let followed = Path {
             schema: &schema,
             message,

@@ -4,11 +4,12 @@
 
 use std::process::ExitCode;
 
-use reference::{appends, clear_unions, field, judge, read, with_added, without_appended, write};
-use reference::{Answer, Budget};
+use reference::{appends, clear_unions, field, judge, positions, read, with_added};
+use reference::{without_appended, write, Answer, Budget, Lent};
 
 const USAGE: &str = "\
 usage: reference [--coding 32] COMMAND; without it the coding is 48
+  reference positions SCHEMA OUT                     prints number, and on 0 the table to OUT
   reference judge SCHEMA MESSAGE VISITS CONTENT      prints number, place, member, visits, content
   reference read SCHEMA MESSAGE VISITS CONTENT OUT   the same, and on 0 the sheet to OUT
   reference write SCHEMA SHEET OUT                   prints number, and on 0 the message to OUT
@@ -18,7 +19,8 @@ usage: reference [--coding 32] COMMAND; without it the coding is 48
   reference without OLD NEW SHEET OUT                the newer sheet without the appended members
   reference with OLD NEW SHEET OUT                   the older sheet with the added members
 SCHEMA, MESSAGE, SHEET, OLD, NEW and OUT are files; the others are numbers, VISITS and CONTENT
-the two allowances. Clearing takes a schema of coding 48, whatever coding is said.";
+the two allowances. Every command makes the table of positions that it reads with. Clearing takes
+a schema of coding 48, whatever coding is said.";
 
 fn main() -> ExitCode {
     let arguments: Vec<String> = std::env::args().skip(1).collect();
@@ -46,15 +48,22 @@ fn run(words: &[&str]) -> Result<String, String> {
 /// A command under the coding of this number.
 fn command(coding: u32, words: &[&str]) -> Result<String, String> {
     match words {
+        ["positions", schema, out] => {
+            let (number, table) = positions(coding, &load(schema)?, usize::MAX);
+            if number == 0 {
+                save(out, &table)?;
+            }
+            Ok(number.to_string())
+        }
         ["judge", schema, message, visits, content] => {
-            let (schema, message) = (load(schema)?, load(message)?);
+            let (schema, message) = (Tabled::load(coding, schema)?, load(message)?);
             let budget = budget(visits, content)?;
-            Ok(verdict_line(judge(coding, &schema, &message, budget)))
+            Ok(verdict_line(judge(schema.lent(), &message, budget)))
         }
         ["read", schema, message, visits, content, out] => {
-            let (schema, message) = (load(schema)?, load(message)?);
+            let (schema, message) = (Tabled::load(coding, schema)?, load(message)?);
             let budget = budget(visits, content)?;
-            let (verdict, sheet) = read(coding, &schema, &message, budget, usize::MAX);
+            let (verdict, sheet) = read(schema.lent(), &message, budget, usize::MAX);
             if verdict.number == 0 {
                 save(out, &sheet)?;
             }
@@ -76,8 +85,8 @@ fn command(coding: u32, words: &[&str]) -> Result<String, String> {
         }
         ["field", schema, message, path @ ..] => {
             let path: Result<Vec<u32>, String> = path.iter().map(|word| number(word)).collect();
-            let (schema, message) = (load(schema)?, load(message)?);
-            Ok(answer_line(field(coding, &schema, &message, &path?)))
+            let (schema, message) = (Tabled::load(coding, schema)?, load(message)?);
+            Ok(answer_line(field(schema.lent(), &message, &path?)))
         }
         ["appends", old, new] => {
             let yes = appends(coding, &load(old)?, &load(new)?);
@@ -92,6 +101,33 @@ fn command(coding: u32, words: &[&str]) -> Result<String, String> {
             out,
         ),
         _ => Err(String::from(USAGE)),
+    }
+}
+
+/// A schema with the table that it has under a coding; with none if it is not lawful.
+struct Tabled {
+    coding: u32,
+    schema: Vec<u8>,
+    positions: Vec<u8>,
+}
+
+impl Tabled {
+    fn load(coding: u32, file: &str) -> Result<Tabled, String> {
+        let schema = load(file)?;
+        let (_, positions) = positions(coding, &schema, usize::MAX);
+        Ok(Tabled {
+            coding,
+            schema,
+            positions,
+        })
+    }
+
+    fn lent(&self) -> Lent<'_> {
+        Lent {
+            coding: self.coding,
+            schema: &self.schema,
+            positions: &self.positions,
+        }
     }
 }
 

@@ -5,6 +5,7 @@ use crate::message::{
     element_lead, find, is_nan, member_lead, number, open, open_message, Lead, Object, Refusal,
     Spot, NO_ENUM, SIZE,
 };
+use crate::positions::Lent;
 use crate::schema::{Kind, Member, Schema, Target};
 use crate::walk::{judge_parsed, Budget, Verdict};
 
@@ -16,14 +17,8 @@ pub const UNKNOWN: u64 = 2;
 /// Reads a message to its value sheet: the verdict and, where it is 0, the
 /// sheet. "Reading to a sheet gives the verdict's refusal first, then 14 with
 /// the full visits" and content, where the sheet is over the size or over `room`.
-pub fn read(
-    coding: u32,
-    schema: &[u8],
-    message: &[u8],
-    budget: Budget,
-    room: usize,
-) -> (Verdict, Vec<u8>) {
-    let Some(schema) = Schema::parse(coding, schema) else {
+pub fn read(lent: Lent, message: &[u8], budget: Budget, room: usize) -> (Verdict, Vec<u8>) {
+    let Some(schema) = lent.parse() else {
         return (Verdict::not_lawful(), Vec::new());
     };
     let verdict = judge_parsed(&schema, message, budget);

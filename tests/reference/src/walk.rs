@@ -4,6 +4,7 @@ use crate::message::{
     content_length, element_lead, find, fit, judge_struct, judge_text, member_lead, open_message,
     Lead, Object, Refusal, Spot,
 };
+use crate::positions::Lent;
 use crate::schema::{Kind, Schema, Target};
 
 /// How much a walk may spend: "\"Budget\" ... now means both allowances".
@@ -47,7 +48,7 @@ impl Verdict {
         }
     }
 
-    /// A schema that is not lawful.
+    /// A schema that is not lawful, or not with the table lent.
     pub(crate) fn not_lawful() -> Verdict {
         Verdict::new(Refusal::new(1, 0), 0, 0)
     }
@@ -59,8 +60,8 @@ impl Verdict {
 }
 
 /// Judges a message by a packed schema. Numbers 0 to 10, 16 and 17.
-pub fn judge(coding: u32, schema: &[u8], message: &[u8], budget: Budget) -> Verdict {
-    match Schema::parse(coding, schema) {
+pub fn judge(lent: Lent, message: &[u8], budget: Budget) -> Verdict {
+    match lent.parse() {
         Some(schema) => judge_parsed(&schema, message, budget),
         None => Verdict::not_lawful(),
     }

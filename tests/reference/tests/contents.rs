@@ -32,8 +32,8 @@ fn parts(verdict: Verdict) -> Parts4 {
 /// Judged, and read to a sheet with the same answer.
 fn spent(coding: u32, schema: &[u8], message: &[u8], visits: u32, content: u64) -> Parts4 {
     let budget = Budget { visits, content };
-    let verdict = reference::judge(coding, schema, message, budget);
-    let (read, sheet) = reference::read(coding, schema, message, budget, 1000);
+    let verdict = tabled::judge(coding, schema, message, budget);
+    let (read, sheet) = tabled::read(coding, schema, message, budget, 1000);
     assert_eq!(read, verdict);
     assert!(verdict.number == 0 || sheet.is_empty());
     assert_eq!(verdict.number == 8, verdict.member != NO_MEMBER);
@@ -294,15 +294,15 @@ fn a_sheet_without_room() {
         visits: 2,
         content: 10,
     };
-    let (verdict, sheet) = reference::read(48, &n(), &m(), budget, 8);
+    let (verdict, sheet) = tabled::read(48, &n(), &m(), budget, 8);
     assert_eq!((parts(verdict), sheet.len()), ((14, 0, 2, 10), 0));
-    let (verdict, sheet) = reference::read(48, &n(), &m(), budget, 9);
+    let (verdict, sheet) = tabled::read(48, &n(), &m(), budget, 9);
     assert_eq!((parts(verdict), sheet.len()), ((0, 0, 2, 10), 9));
     let less = Budget {
         content: 9,
         ..budget
     };
-    let (verdict, sheet) = reference::read(48, &n(), &m(), less, 8);
+    let (verdict, sheet) = tabled::read(48, &n(), &m(), less, 8);
     assert_eq!((parts(verdict), sheet.len()), ((17, 28, 2, 8), 0));
 }
 
@@ -321,7 +321,7 @@ fn a_large_blob_named_often() {
     let judged = |content| {
         let visits = u32::MAX;
         let budget = Budget { visits, content };
-        parts(reference::judge(48, &schema, &message.bytes, budget))
+        parts(tabled::judge(48, &schema, &message.bytes, budget))
     };
     assert_eq!(judged(whole), (0, 0, 1002, whole));
     assert_eq!(judged(whole - 1), (17, blob, 1002, whole - 5_000_000));

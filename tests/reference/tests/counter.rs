@@ -2,8 +2,9 @@
 
 mod common;
 
+use common::tabled::field;
 use common::{hex, judge, read, verdict, verdict_of};
-use reference::{field, write, Answer};
+use reference::{write, Answer};
 
 fn o() -> Vec<u8> {
     hex("00 00 00 01 00 4C 49 43 45 01 10 00")

@@ -3,9 +3,10 @@
 
 mod common;
 
+use common::tabled::{field, list_reader};
 use common::*;
-use reference::{appends, clear_unions, field, lawful, with_added, without_appended};
-use reference::{write, write_stored, Answer, ListReader};
+use reference::{appends, clear_unions, lawful, with_added, without_appended};
+use reference::{write, write_stored, Answer};
 
 /// A small generator of random numbers.
 struct Random(u64);
@@ -144,7 +145,7 @@ fn hold(schema: &[u8], message: &[u8], random: &mut Random) -> u32 {
     if let Answer::Refused { number, .. } = field(48, schema, message, &path) {
         assert!(verdict.number != 0 || number == 15);
     }
-    if let Ok(mut reader) = ListReader::new(48, schema, message, &path) {
+    if let Ok(mut reader) = list_reader(48, schema, message, &path) {
         for _ in 0..5 {
             reader.step();
         }

@@ -4,9 +4,10 @@
 
 mod common;
 
+use common::tabled::{field, list_reader, text};
 use common::*;
-use reference::{appends, field, lawful, text, with_added, without_appended, write};
-use reference::{Answer, Budget, ListReader, Verdict, NO_MEMBER};
+use reference::{appends, lawful, with_added, without_appended, write};
+use reference::{Answer, Budget, Verdict, NO_MEMBER};
 
 /// The id of table 1, that of the elements, and its bytes.
 const ELEMENT: u32 = 0x0102_0304;
@@ -58,8 +59,8 @@ fn all(verdict: Verdict) -> Parts5 {
 /// Judged, and read to a sheet with the same answer.
 fn spent(schema: &[u8], message: &[u8], visits: u32, content: u64) -> Parts5 {
     let budget = Budget { visits, content };
-    let verdict = reference::judge(48, schema, message, budget);
-    let (read, sheet) = reference::read(48, schema, message, budget, 100_000);
+    let verdict = tabled::judge(48, schema, message, budget);
+    let (read, sheet) = tabled::read(48, schema, message, budget, 100_000);
     assert_eq!(read, verdict);
     assert!(verdict.number == 0 || sheet.is_empty());
     all(verdict)
@@ -76,7 +77,7 @@ fn plain(number: u32, place: u64, visits: u32, content: u64) -> Parts5 {
 }
 
 fn sheet_of(schema: &[u8], message: &[u8]) -> Vec<u8> {
-    let (verdict, sheet) = reference::read(48, schema, message, Budget::LARGEST, 1000);
+    let (verdict, sheet) = tabled::read(48, schema, message, Budget::LARGEST, 1000);
     assert_eq!(verdict.number, 0);
     sheet
 }
@@ -326,7 +327,7 @@ fn four_billion_elements_of_no_bytes() {
     assert_eq!(answer(&[0, 4_294_967_294, 1]), Answer::Absent);
     assert_eq!(answer(&[0, 4_294_967_295]), common::refused(15, 26));
     let schema = plan();
-    let mut reader = ListReader::new(48, &schema, &message.bytes, &[0]).unwrap();
+    let mut reader = list_reader(48, &schema, &message.bytes, &[0]).unwrap();
     for _ in 0..3 {
         assert_eq!(reader.step(), object(16, 44, 0));
     }
@@ -342,12 +343,12 @@ fn four_billion_elements_of_no_bytes() {
 fn a_sheet_over_the_size() {
     let schema = elements_of(&[TEXT; 64]);
     let message = list_of(1_048_576, 0, &[]);
-    let (verdict, sheet) = reference::read(48, &schema, &message.bytes, Budget::LARGEST, 1 << 30);
+    let (verdict, sheet) = tabled::read(48, &schema, &message.bytes, Budget::LARGEST, 1 << 30);
     assert_eq!(all(verdict), plain(14, 0, 1_048_578, 6));
     assert!(sheet.is_empty());
     // 2 and 32 bits and 128 for each of 1,048,575: five bytes more than 16 each.
     let message = list_of(1_048_575, 0, &[]);
-    let (verdict, sheet) = reference::read(48, &schema, &message.bytes, Budget::LARGEST, 1 << 30);
+    let (verdict, sheet) = tabled::read(48, &schema, &message.bytes, Budget::LARGEST, 1 << 30);
     assert_eq!(all(verdict), plain(0, 0, 1_048_577, 6));
     assert_eq!(sheet.len(), 16_777_205);
 }
@@ -581,19 +582,19 @@ fn fields() {
 #[test]
 fn the_list_reader() {
     let (schema, message) = (plan(), floor());
-    let mut reader = ListReader::new(48, &schema, &message, &[0]).unwrap();
+    let mut reader = list_reader(48, &schema, &message, &[0]).unwrap();
     assert_eq!(reader.step(), object(16, 44, 8));
     assert_eq!(reader.step(), object(16, 52, 8));
     assert_eq!(reader.step(), refused(15, 26));
     assert_eq!(reader.step(), refused(15, 26));
     // An element is a table, which is no list.
-    let no_list = ListReader::new(48, &schema, &message, &[0, 0]).err();
+    let no_list = list_reader(48, &schema, &message, &[0, 0]).err();
     assert_eq!(no_list, Some(refused(15, 0)));
-    let no_list = ListReader::new(48, &schema, &message, &[0, 2]).err();
+    let no_list = list_reader(48, &schema, &message, &[0, 2]).err();
     assert_eq!(no_list, Some(refused(15, 26)));
     let mut wrong = floor();
     wrong[36] ^= 1;
-    let no_list = ListReader::new(48, &schema, &wrong, &[0]).err();
+    let no_list = list_reader(48, &schema, &wrong, &[0]).err();
     assert_eq!(no_list, Some(refused(7, 26)));
 }
 
@@ -622,14 +623,14 @@ fn a_list_of_direct_lists() {
     let sheet = sheet.here().put(2, 32).here().put(1, 16).here().put(2, 16);
     assert_eq!(sheet_of(&schema, &message.bytes), sheet.done());
     message.bytes[96] = 1;
-    let mut reader = ListReader::new(48, &schema, &message.bytes, &[0]).unwrap();
+    let mut reader = list_reader(48, &schema, &message.bytes, &[0]).unwrap();
     assert_eq!(reader.step(), object(18, 60, 2));
     assert_eq!(reader.step(), Answer::Absent);
     // One element of one byte does not fit behind 100.
     assert_eq!(reader.step(), refused(6, 82));
     assert_eq!(reader.step(), object(18, 60, 2));
     assert_eq!(reader.step(), refused(15, 26));
-    let mut reader = ListReader::new(48, &schema, &message.bytes, &[0, 3]).unwrap();
+    let mut reader = list_reader(48, &schema, &message.bytes, &[0, 3]).unwrap();
     assert_eq!(reader.step(), object(16, 78, 2));
     assert_eq!(reader.step(), object(16, 80, 2));
     assert_eq!(reader.step(), refused(15, 60));

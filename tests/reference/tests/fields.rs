@@ -2,8 +2,9 @@
 
 mod common;
 
+use common::tabled::{field, list_reader, text};
 use common::*;
-use reference::{field, text, Answer, ListReader};
+use reference::Answer;
 
 fn unsigned(bits: u64, width: u32) -> Answer {
     Answer::Number {
@@ -354,9 +355,7 @@ fn a_path_of_96_numbers() {
 
 /// All answers of a list reader, and the element's own paths beside them.
 fn steps(schema: &[u8], message: &Message, path: &[u32], count: u32) -> Vec<Answer> {
-    let mut reader = ListReader::new(48, schema, &message.bytes, path)
-        .ok()
-        .unwrap();
+    let mut reader = list_reader(48, schema, &message.bytes, path).ok().unwrap();
     let answers: Vec<Answer> = (0..count).map(|_| reader.step()).collect();
     for (number, answer) in answers.iter().enumerate() {
         let mut element = path.to_vec();
@@ -422,7 +421,7 @@ fn where_the_list_reader_does_not_start() {
     message.table(ID, 45).u48(65).u48(65).u48(65).u48(65);
     message.u48(75).choice(9, 0).u48(0).raw(&[1]);
     message.list_head(0).text("");
-    let start = |path: &[u32]| ListReader::new(48, &schema, &message.bytes, path).err();
+    let start = |path: &[u32]| list_reader(48, &schema, &message.bytes, path).err();
     for number in 0..8 {
         assert_eq!(start(&[number]), Some(refused(15, 0)), "{number}");
     }
@@ -431,11 +430,11 @@ fn where_the_list_reader_does_not_start() {
     assert_eq!(start(&[4, 0]), Some(refused(15, 75)));
     assert_eq!(start(&[0; 97]), Some(refused(15, 0)));
     assert_eq!(
-        ListReader::new(48, &schema, &[], &[6]).err(),
+        list_reader(48, &schema, &[], &[6]).err(),
         Some(refused(2, 0))
     );
     assert_eq!(
-        ListReader::new(48, &schema, &[0; 10], &[6]).err(),
+        list_reader(48, &schema, &[0; 10], &[6]).err(),
         Some(refused(3, 0))
     );
 }

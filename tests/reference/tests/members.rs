@@ -4,8 +4,9 @@
 
 mod common;
 
+use common::tabled::{field, list_reader};
 use common::*;
-use reference::{field, ListReader, Verdict};
+use reference::Verdict;
 
 /// A schema whose root has the given members. Struct 1 is a struct of a bool and
 /// a U8, and a bool; table 1 has a U8, a U16 and struct 1.
@@ -244,13 +245,13 @@ fn the_list_reader() {
     // Fixed 20 to 28, in which the U32 is cut; the list at 28.
     message.table(ID, 8).u48(28).raw(&[0, 0]).list_head(3);
     message.choice(1, 0).choice(0, 0).choice(2, 0);
-    let reader = ListReader::new(48, &schema, &message.bytes, &[0]);
+    let reader = list_reader(48, &schema, &message.bytes, &[0]);
     let mut reader = reader.unwrap_or_else(|answer| panic!("{answer:?}"));
     assert_eq!(reader.step(), refused_of(9, 28, 0));
     reader.step();
     assert_eq!(reader.step(), refused_of(9, 28, 2));
     assert_eq!(reader.step(), refused(15, 28));
-    let start = |path: &[u32]| ListReader::new(48, &schema, &message.bytes, path).err();
+    let start = |path: &[u32]| list_reader(48, &schema, &message.bytes, path).err();
     assert_eq!(start(&[1]), Some(refused_of(8, 10, 1)));
     assert_eq!(start(&[0, 2]), Some(refused_of(9, 28, 2)));
     assert_eq!(start(&[]), Some(refused(15, 0)));

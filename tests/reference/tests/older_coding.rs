@@ -3,9 +3,10 @@
 
 mod common;
 
+use common::tabled::{field, list_reader, text};
 use common::*;
-use reference::{appends, field, lawful, text, with_added, without_appended, write};
-use reference::{Answer, ListReader};
+use reference::Answer;
+use reference::{appends, lawful, with_added, without_appended, write};
 
 /// A table with a U16, and the same with a text after it.
 fn o() -> Vec<u8> {
@@ -322,7 +323,7 @@ fn a_list_of_references() {
     );
     assert_eq!(write(32, &schema, &sheet, 99), (0, message.clone()));
     let path = [0];
-    let reader = ListReader::new(32, &schema, &message, &path);
+    let reader = list_reader(32, &schema, &message, &path);
     let mut reader = reader.unwrap_or_else(|answer| panic!("{answer:?}"));
     let steps = [
         object(13, 36, 2),
@@ -538,7 +539,7 @@ fn codings_of_other_numbers() {
         assert_eq!(field(coding, &n(), &m(), &[0; 97]), refused(1, 0));
         assert_eq!(text(coding, &n(), &m(), &[1]), None);
         let path = [1];
-        let list = ListReader::new(coding, &n(), &m(), &path).map(|_| ());
+        let list = list_reader(coding, &n(), &m(), &path).map(|_| ());
         assert_eq!(list, Err(refused(1, 0)));
     }
 }

@@ -2,8 +2,9 @@
 
 mod common;
 
+use common::tabled::{field, list_reader};
 use common::*;
-use reference::{field, lawful, write, ListReader, Schema};
+use reference::{lawful, write, Schema};
 
 fn tables(count: u32) -> Vec<(u32, Vec<u16>)> {
     (0..count).map(|id| (id, vec![])).collect()
@@ -253,8 +254,5 @@ fn an_unlawful_schema_is_1_everywhere() {
     assert_eq!(write(48, &schema, &[], 0), (1, vec![]));
     let refused = refused(1, 0);
     assert_eq!(field(48, &schema, &[], &[0; 97]), refused);
-    assert_eq!(
-        ListReader::new(48, &schema, &[], &[0; 97]).err(),
-        Some(refused)
-    );
+    assert_eq!(list_reader(48, &schema, &[], &[0; 97]).err(), Some(refused));
 }

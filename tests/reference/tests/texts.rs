@@ -4,9 +4,10 @@
 
 mod common;
 
+use common::tabled::{field, list_reader, text};
 use common::*;
-use reference::{field, text, with_added, write, write_stored};
-use reference::{Answer, Budget, ListReader, Verdict, NO_MEMBER};
+use reference::{with_added, write, write_stored};
+use reference::{Answer, Budget, Verdict, NO_MEMBER};
 
 /// The first and the last character of each row of the grammar, and some around.
 const TEXTS: [&str; 18] = [
@@ -372,8 +373,8 @@ impl Way {
     /// Judged and read alike with an allowance, and no sheet with a refusal.
     fn judged(&self, message: &[u8], visits: u32, content: u64) -> Verdict {
         let budget = Budget { visits, content };
-        let verdict = reference::judge(self.coding, &self.schema(), message, budget);
-        let read = reference::read(self.coding, &self.schema(), message, budget, 1000);
+        let verdict = tabled::judge(self.coding, &self.schema(), message, budget);
+        let read = tabled::read(self.coding, &self.schema(), message, budget, 1000);
         assert_eq!(read.0, verdict, "{}", self.name);
         assert!(verdict.number == 0 || read.1.is_empty(), "{}", self.name);
         verdict
@@ -398,7 +399,7 @@ impl Way {
     fn step(&self, message: &[u8]) -> Option<Answer> {
         let (last, list) = self.path.split_last()?;
         let schema = self.schema();
-        let mut reader = ListReader::new(self.coding, &schema, message, list).ok()?;
+        let mut reader = list_reader(self.coding, &schema, message, list).ok()?;
         reader.skip(u64::from(*last));
         Some(reader.step())
     }
@@ -578,7 +579,7 @@ fn fields_beside_and_beyond() {
     assert_eq!(at(&[1, 0]), refused(16, 28));
     assert_eq!(at(&[2]), refused(15, 10));
     assert_eq!(
-        ListReader::new(48, &way.schema(), &message, &[1]).err(),
+        list_reader(48, &way.schema(), &message, &[1]).err(),
         Some(refused(16, 28))
     );
 }
@@ -596,9 +597,7 @@ fn a_list_of_texts_and_others() {
         .text_of(b"a")
         .text_of(&[0xC0, 0x80]);
     message.text_of(&[0xC2, 0x80]);
-    let mut reader = ListReader::new(48, &schema, &message.bytes, &[0])
-        .ok()
-        .unwrap();
+    let mut reader = list_reader(48, &schema, &message.bytes, &[0]).ok().unwrap();
     let object = |place, length| Answer::Object {
         kind: 13,
         place,
@@ -617,7 +616,7 @@ fn a_list_of_texts_and_others() {
         assert_eq!(reader.step(), answer);
     }
     // The walk ends at the first.
-    let given = reference::judge(48, &schema, &message.bytes, Budget::LARGEST);
+    let given = tabled::judge(48, &schema, &message.bytes, Budget::LARGEST);
     let expected = Verdict {
         content: 37,
         ..verdict(16, 66, 3)

@@ -1,6 +1,6 @@
 //! The whole library at the desk, on files. See `USAGE`.
 
-use scalgo::{Answer, Budget, Coding, Verdict};
+use scalgo::{Answer, Budget, Coding, NotLawful, Schema, Verdict};
 use std::process::ExitCode;
 use std::str::FromStr;
 
@@ -24,6 +24,13 @@ a sheet in which a union in place is present is refused by 12; under 32 bits the
 struct Asked {
     coding: Coding,
     budget: Budget,
+}
+
+impl Asked {
+    /// The schema of a file's bytes.
+    fn schema(&self, bytes: Vec<u8>) -> Result<Schema, NotLawful> {
+        Schema::new(self.coding, bytes)
+    }
 }
 
 /// The most bytes of a sheet or a message.
@@ -62,73 +69,96 @@ fn run(mut words: &[&str]) -> Result<String, String> {
 }
 
 fn command(asked: &Asked, words: &[&str]) -> Result<String, String> {
-    let (coding, budget) = (asked.coding, asked.budget);
     match words {
         ["judge", schema, message] => {
-            let verdict = scalgo::judge(coding, &load(schema)?, &load(message)?, budget);
+            let (schema, message) = (load(schema)?, load(message)?);
+            let verdict = match asked.schema(schema) {
+                Ok(schema) => schema.judge(&message, asked.budget),
+                Err(refusal) => refusal.into(),
+            };
             Ok(format!("{}\n", verdict_line(verdict, "")))
         }
         ["field", schema, message, path @ ..] => {
             let (schema, message, path) = (load(schema)?, load(message)?, numbers(path)?);
-            Ok(format!("{}\n", field(coding, &schema, &message, &path)))
+            let said = match asked.schema(schema) {
+                Ok(schema) => field(&schema, &message, &path),
+                Err(refusal) => line(refusal.into()),
+            };
+            Ok(said + "\n")
         }
         ["list", schema, message, path @ ..] => {
             let (schema, message, path) = (load(schema)?, load(message)?, numbers(path)?);
-            Ok(list(coding, &schema, &message, &path))
+            Ok(match asked.schema(schema) {
+                Ok(schema) => list(&schema, &message, &path),
+                Err(refusal) => line(refusal.into()) + "\n",
+            })
         }
-        ["read", schema, message, sheet] => read(asked, &load(schema)?, &load(message)?, sheet),
-        ["write", schema, sheet, message] => write(coding, &load(schema)?, &load(sheet)?, message),
+        ["read", schema, message, sheet] => read(asked, load(schema)?, &load(message)?, sheet),
+        ["write", schema, sheet, message] => write(asked, load(schema)?, &load(sheet)?, message),
         ["migrate", schema, message, new_schema, new_message] => {
             let (schema, message) = (load(schema)?, load(message)?);
-            migrate(asked, &schema, &message, [new_schema, new_message])
+            migrate(asked, schema, &message, [new_schema, new_message])
         }
         _ => Err(USAGE.to_string()),
     }
 }
 
 /// What stands at a path, a text or bytes with its content.
-fn field(coding: Coding, schema: &[u8], message: &[u8], path: &[u32]) -> String {
-    let line = line(scalgo::field(coding, schema, message, path));
-    if let Some(text) = scalgo::text_str(coding, schema, message, path) {
+fn field(schema: &Schema, message: &[u8], path: &[u32]) -> String {
+    let line = line(schema.field(message, path));
+    if let Some(text) = schema.text_str(message, path) {
         return format!("{line}: {}", text.escape_debug());
     }
-    match scalgo::text(coding, schema, message, path) {
+    match schema.text(message, path) {
         Some(bytes) => format!("{line}: {}", bytes.escape_ascii()),
         None => line,
     }
 }
 
-fn list(coding: Coding, schema: &[u8], message: &[u8], path: &[u32]) -> String {
-    match scalgo::list(coding, schema, message, path) {
+fn list(schema: &Schema, message: &[u8], path: &[u32]) -> String {
+    match schema.list(message, path) {
         Ok(list) => list.map(|element| line(element) + "\n").collect(),
         Err(refusal) => line(refusal) + "\n",
     }
 }
 
-fn read(asked: &Asked, schema: &[u8], message: &[u8], file: &str) -> Result<String, String> {
+fn read(asked: &Asked, schema: Vec<u8>, message: &[u8], file: &str) -> Result<String, String> {
     let mut sheet = vec![0; SIZE];
-    let answer = scalgo::read(asked.coding, schema, message, asked.budget, &mut sheet);
-    let verdict = answer.verdict;
+    let (verdict, length) = match asked.schema(schema) {
+        Ok(schema) => {
+            let answer = schema.read(message, asked.budget, &mut sheet);
+            (answer.verdict, answer.length)
+        }
+        Err(refusal) => (refusal.into(), 0),
+    };
     if verdict.accepted() {
-        save(file, &sheet[..answer.length])?;
+        save(file, &sheet[..length])?;
     }
-    let length = format!(" {}", answer.length);
-    Ok(format!("{}\n", verdict_line(verdict, &length)))
+    Ok(format!(
+        "{}\n",
+        verdict_line(verdict, &format!(" {length}"))
+    ))
 }
 
-fn write(coding: Coding, schema: &[u8], sheet: &[u8], file: &str) -> Result<String, String> {
+fn write(asked: &Asked, schema: Vec<u8>, sheet: &[u8], file: &str) -> Result<String, String> {
     let mut message = vec![0; SIZE];
-    let answer = scalgo::write(coding, schema, sheet, &mut message);
-    if answer.number == 0 {
-        save(file, &message[..answer.length])?;
+    let (number, length) = match asked.schema(schema) {
+        Ok(schema) => {
+            let answer = schema.write(sheet, &mut message);
+            (answer.number, answer.length)
+        }
+        Err(_) => (NotLawful::NUMBER, 0),
+    };
+    if number == 0 {
+        save(file, &message[..length])?;
     }
-    Ok(format!("{} {}\n", answer.number, answer.length))
+    Ok(format!("{number} {length}\n"))
 }
 
 /// Moves a stored message over: its sheet is read by its schema and written with that schema cleared.
 fn migrate(
     asked: &Asked,
-    schema: &[u8],
+    schema: Vec<u8>,
     message: &[u8],
     [new_schema, new_message]: [&str; 2],
 ) -> Result<String, String> {
@@ -136,38 +166,42 @@ fn migrate(
         let why = "migrate: messages of 32 bits keep their unions in place and are not moved over";
         return Err(why.to_string());
     }
+    let stored = match asked.schema(schema) {
+        Ok(schema) => schema,
+        Err(refusal) => return Ok(format!("{}\n", verdict_line(refusal.into(), " 0"))),
+    };
     let mut sheet = vec![0; SIZE];
-    let read = scalgo::read(Coding::Bits48, schema, message, asked.budget, &mut sheet);
+    let read = stored.read(message, asked.budget, &mut sheet);
     if !read.verdict.accepted() {
         return Ok(format!("{}\n", verdict_line(read.verdict, " 0")));
     }
     let sheet = &sheet[..read.length];
-    let cleared = cleared(schema)?;
+    let cleared = cleared(&stored)?;
     let mut moved = vec![0; SIZE];
-    let answer = scalgo::write(Coding::Bits48, &cleared, sheet, &mut moved);
+    let answer = cleared.write(sheet, &mut moved);
     if answer.number == 0 {
         let moved = &moved[..answer.length];
         same_sheet(&cleared, moved, sheet)?;
-        save(new_schema, &cleared)?;
+        save(new_schema, cleared.bytes())?;
         save(new_message, moved)?;
     }
     Ok(format!("{} {}\n", answer.number, answer.length))
 }
 
-/// The schema of a message that was accepted, cleared.
-fn cleared(schema: &[u8]) -> Result<Vec<u8>, String> {
-    let mut cleared = vec![0; schema.len()];
-    let answer = scalgo::clear_unions(schema, &mut cleared);
-    match (answer.number, answer.length == schema.len()) {
-        (0, true) => Ok(cleared),
+/// The schema that stored messages are moved over to.
+fn cleared(stored: &Schema) -> Result<Schema, String> {
+    let mut cleared = vec![0; stored.bytes().len()];
+    let answer = scalgo::clear_unions(stored.bytes(), &mut cleared);
+    match (answer.number, Schema::new(Coding::Bits48, cleared)) {
+        (0, Ok(schema)) => Ok(schema),
         (number, _) => Err(format!("migrate: the schema was not cleared: {number}")),
     }
 }
 
 /// Makes sure that a message that was written has the sheet it was written from.
-fn same_sheet(schema: &[u8], message: &[u8], sheet: &[u8]) -> Result<(), String> {
+fn same_sheet(schema: &Schema, message: &[u8], sheet: &[u8]) -> Result<(), String> {
     let mut back = vec![0; SIZE];
-    let answer = scalgo::read(Coding::Bits48, schema, message, Budget::LARGEST, &mut back);
+    let answer = schema.read(message, Budget::LARGEST, &mut back);
     match answer.verdict.accepted() && back[..answer.length] == *sheet {
         true => Ok(()),
         false => Err(format!(

@@ -1,5 +1,5 @@
-use Rattle.message_object.proofs.OpenCases.{schema-accepted}
-use Rattle.field_element.proofs.StepCases.{answer-unlawful, next-unlawful}
+use Rattle.positions.specs.Lent.{lent-accepted, lent-rows}
+use Rattle.field_element.proofs.StepCases.{gives-lent, next-lent, answer-unlawful, next-unlawful}
 use borrow.Author.Needs.{needs}
 use Rattle.field_element.proofs.step.Statement.{statement}
 use Rattle.field_element.proofs.step.Tie as tie
@@ -14,10 +14,10 @@ slice-aggregate-step-by : tie.Need-slice-aggregate-step-by
 slice-aggregate-step-by c = search needs
 
 step-by-requires : tie.Need-step-by-requires
-step-by-requires c κs = schema-accepted _ _ _ _ (c .before .before .before .judge-schema .ensures) (c .before .if1 .taken)
+step-by-requires c κs = (lent-accepted _ _ _ _ _ (c .before .before .before .judge-schema .ensures) (c .before .if1 .taken), lent-rows _ _ _ _ _ (c .before .before .before .judge-schema .ensures) (c .before .if1 .taken))
 
 returns : tie.Need-returns
-returns c = search needs
+returns c = (search gives-lent, search next-lent)
 
 refused-requires : tie.Need-refused-requires
 refused-requires c κs = search needs

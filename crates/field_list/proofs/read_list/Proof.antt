@@ -1,6 +1,6 @@
-use Rattle.message_object.proofs.OpenCases.{schema-accepted}
-use Rattle.field_element.proofs.StepCases.{count-unlawful}
-use Rattle.field_list.proofs.ListCases.{over-unlawful}
+use Rattle.positions.specs.Lent.{lent-accepted, lent-rows}
+use Rattle.field_element.proofs.StepCases.{count-lent, count-unlawful}
+use Rattle.field_list.proofs.ListCases.{over-lent, over-unlawful}
 use borrow.Author.Needs.{needs}
 use Rattle.field_list.proofs.read_list.Statement.{statement}
 use Rattle.field_list.proofs.read_list.Tie as tie
@@ -15,13 +15,13 @@ slice-aggregate-list-by : tie.Need-slice-aggregate-list-by
 slice-aggregate-list-by c = search needs
 
 list-by-requires : tie.Need-list-by-requires
-list-by-requires c κs = schema-accepted _ _ _ _ (c .before .before .before .before .judge-schema .ensures) (c .before .before .if1 .taken)
+list-by-requires c κs = (lent-accepted _ _ _ _ _ (c .before .before .before .before .judge-schema .ensures) (c .before .before .if1 .taken), lent-rows _ _ _ _ _ (c .before .before .before .before .judge-schema .ensures) (c .before .before .if1 .taken))
 
 same-length : tie.Need-same-length
 same-length c = search needs
 
 returns : tie.Need-returns
-returns c = search needs
+returns c = (search count-lent, search over-lent)
 
 refused-requires : tie.Need-refused-requires
 refused-requires c κs = search needs

@@ -12,10 +12,10 @@ use Rattle.field_path.proofs.along.Statement.{statement}
 use Rattle.field_path.proofs.along.Tie as tie
 
 abbrev Inv-loop : tie.InvT-loop
-Inv-loop b dir m path o f₀ i₀ f i = (i ≤ length path) × (Field.along o (P.parse b) m f₀ path ≡ Field.along o (P.parse b) m f (drop i path)) × FoundWithin o (P.parse b) m f
+Inv-loop b rows dir m path o f₀ i₀ f i = (i ≤ length path) × (Field.along o (P.parse b) m f₀ path ≡ Field.along o (P.parse b) m f (drop i path)) × FoundWithin o (P.parse b) m f
 
 abbrev μ-loop : tie.MeasureT-loop
-μ-loop b dir m path o f₀ i₀ f i = length path - i
+μ-loop b rows dir m path o f₀ i₀ f i = length path - i
 
 loop-holds : tie.Need-loop-holds Inv-loop μ-loop
 loop-holds c = (omega arith, search needs, search needs)
@@ -27,7 +27,7 @@ shared-slice-read-part-of : tie.Need-shared-slice-read-part-of Inv-loop μ-loop
 shared-slice-read-part-of c = search needs
 
 cast-part-of : tie.Need-cast-part-of Inv-loop μ-loop
-cast-part-of c = omega (arith, c .shared-slice-known5 .given (c .before .before .loop .i))
+cast-part-of c = omega (arith, c .shared-slice-known6 .given (c .before .before .loop .i))
 
 part-of-requires : tie.Need-part-of-requires Inv-loop μ-loop
 part-of-requires c κs = search needs

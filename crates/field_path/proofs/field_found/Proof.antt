@@ -1,6 +1,5 @@
-use Rattle.message_object.proofs.OpenCases.{schema-accepted}
-use Rattle.field_path.proofs.PathCases.{refused-within}
-use Rattle.field_path.proofs.PathCases.{found-unlawful}
+use Rattle.positions.specs.Lent.{lent-accepted, lent-rows}
+use Rattle.field_path.proofs.PathCases.{refused-within, found-unlawful, found-lent}
 use borrow.Author.Needs.{needs}
 use Rattle.field_path.proofs.field_found.Statement.{statement}
 use Rattle.field_path.proofs.field_found.Tie as tie
@@ -15,10 +14,10 @@ slice-aggregate-found-by : tie.Need-slice-aggregate-found-by
 slice-aggregate-found-by c = search needs
 
 found-by-requires : tie.Need-found-by-requires
-found-by-requires c κs = search schema-accepted
+found-by-requires c κs = (lent-accepted _ _ _ _ _ (c .before .before .before .judge-schema .ensures) (c .before .if1 .taken), lent-rows _ _ _ _ _ (c .before .before .before .judge-schema .ensures) (c .before .if1 .taken))
 
 returns : tie.Need-returns
-returns c = search needs
+returns c = (search found-lent, c .found-by .ensures .1)
 
 refuse-requires : tie.Need-refuse-requires
 refuse-requires c κs = search needs

@@ -16,7 +16,13 @@ start-ok-requires : tie.Need-start-ok-requires
 start-ok-requires c κs = search size-magic
 
 from-root-requires : tie.Need-from-root-requires
-from-root-requires c κs = (c .before .before .before .before .before .before .before .before .before .pre .accepted, c .before .before .before .before .before .before .before .before .before .pre .width, record { bytes = λ i. c .before .before .before .before .before .before .shared-slice-known3 .given i .fits; size = search size-most }, search size-start)
+from-root-requires c κs = (
+  search needs,
+  search needs,
+  search needs,
+  record { bytes = λ i. c .before .before .before .before .before .before .shared-slice-known4 .given i .fits; size = search size-most },
+  search size-start,
+)
 
 returns-2 : tie.Need-returns-2
 returns-2 c = (search found-there, c .from-root .ensures .1)

@@ -14,7 +14,7 @@ arrive-requires : tie.Need-arrive-requires
 arrive-requires c κs = search needs
 
 along-requires : tie.Need-along-requires
-along-requires c κs = (c .before .before .before .before .before .before .before .pre .0, c .before .before .before .before .before .before .before .pre .1, c .before .before .before .before .before .before .before .pre .2, search arrival-within)
+along-requires c κs = (search needs, search needs, search needs, search needs, search arrival-within)
 
 returns : tie.Need-returns
 returns c = (search root-found, c .along .ensures .1)

@@ -42,60 +42,61 @@ use Rattle.field_reader.proofs.moved.Statement as stated
 use Rattle.field_reader.proofs.moved.Code as code
 
 -- the struct's type, over the signature's lifetimes
-abbrev B : Lfts 3 → RattleType
-B κs = T.the-row (namedLft 3 0 tt κs) (namedLft 3 1 tt κs) (namedLft 3 2 tt κs)
+abbrev B : Lfts 4 → RattleType
+B κs = T.the-row (namedLft 4 0 tt κs) (namedLft 4 1 tt κs) (namedLft 4 2 tt κs) (namedLft 4 3 tt κs)
 
 abbrev stayed : Stays (moved.ended .signature .params) (moved.ended .kept)
 stayed = (stay-none B yes, (stay-none (λ _. usize) yes, tt))
 
-module _ {M : Type 1} (𝓤 : URA M) (H : Heap 𝓤) (A : Atoms 𝓤) (W : Given 𝓤 H A) (mem : Memory → SProp 𝓤) (run : Routine → Fun 𝓤) (κ κ′ κ″ : Lft) (q q′ q″ : Share) (d : ListReader) (n : ℕ) (ok : n < 2 ^ 64) where
-  abbrev κs : Lfts 3
-  κs = (κ, (κ′, (κ″, tt)))
+module _ {M : Type 1} (𝓤 : URA M) (H : Heap 𝓤) (A : Atoms 𝓤) (W : Given 𝓤 H A) (mem : Memory → SProp 𝓤) (run : Routine → Fun 𝓤) (κ κ₁ κ₂ κ₃ : Lft) (q q₁ q₂ q₃ : Share) (d : ListReader) (n : ℕ) (ok : n < 2 ^ 64) where
+  abbrev κs : Lfts 4
+  κs = (κ, (κ₁, (κ₂, (κ₃, tt))))
 
   abbrev mach : Val
   mach = T′.lowered d
 
   abbrev d′ : ListReader
-  d′ = record { schema = d .schema; message = d .message; path = d .path; element = n; width = d .width }
+  d′ = record { schema = d .schema; positions = d .positions; message = d .message; path = d .path; element = n; width = d .width }
 
   abbrev at : Vals moved.signature κs
   at = (mach ∷ [], (vint w64 n ∷ [], tt))
 
   abbrev Post : Val → SProp 𝓤
-  Post = walkOf 𝓤 H A moved.ended stayed (moved.clauses 𝓤 H A mem run) .post ((κs, (q, (q′, (q″, tt))), tt, (d, (n, tt)), at), tt)
+  Post = walkOf 𝓤 H A moved.ended stayed (moved.clauses 𝓤 H A mem run) .post ((κs, (q, (q₁, (q₂, (q₃, tt)))), tt, (d, (n, tt)), at), tt)
 
   abbrev Own : Fml
   Own = B κs .own d (mach ∷ [])
 
-  exits : ent 𝓤 (onEntry 𝓤 H A moved.signature κs (q, (q′, (q″, tt))) (d, (n, tt)) at) (Post (T′.lowered d′))
+  exits : ent 𝓤 (onEntry 𝓤 H A moved.signature κs (q, (q₁, (q₂, (q₃, tt)))) (d, (n, tt)) at) (Post (T′.lowered d′))
   exits =
-      qed W ((‵ (flft κ q) ⊛ ‵ (flft κ′ q′) ⊛ ‵ (flft κ″ q″) ⊛ ‵ ftrue) ∷ ‵ (owns (B κs ∷ usize ∷ []) (d, (n, tt)) at) ∷ []) ∵
-      suffices ! _ (ends-at 𝓤 H A moved.ended stayed (moved.clauses 𝓤 H A mem run) W ((κs, (q, (q′, (q″, tt))), tt, (d, (n, tt)), at), tt) (T′.lowered d′) d′ (tt, (tt, tt)) (tt, (tt, tt))) $ says ! (refl, refl, refl, refl, refl) $
-      frame ! $ fsplit ! $ use1 W (‵ Own ⊛ ‵ Own) (LL.copy (T.the-type (namedLft 3 0 tt κs) (namedLft 3 1 tt κs) (namedLft 3 2 tt κs)) (T′.the-copy (namedLft 3 0 tt κs) (namedLft 3 1 tt κs) (namedLft 3 2 tt κs)) 𝓤 H A W .twice d (mach ∷ [])) $ split ! $ move ! (0 ∷ 2 ∷ []) $ fjoin ! $ frame ! $
+      qed W ((‵ (flft κ q) ⊛ ‵ (flft κ₁ q₁) ⊛ ‵ (flft κ₂ q₂) ⊛ ‵ (flft κ₃ q₃) ⊛ ‵ ftrue) ∷ ‵ (owns (B κs ∷ usize ∷ []) (d, (n, tt)) at) ∷ []) ∵
+      suffices ! _ (ends-at 𝓤 H A moved.ended stayed (moved.clauses 𝓤 H A mem run) W ((κs, (q, (q₁, (q₂, (q₃, tt)))), tt, (d, (n, tt)), at), tt) (T′.lowered d′) d′ (tt, (tt, tt)) (tt, (tt, tt))) $ says ! (refl, refl, refl, refl, refl, refl) $
+      frame ! $ fsplit ! $ use1 W (‵ Own ⊛ ‵ Own) (LL.copy (T.the-type (namedLft 4 0 tt κs) (namedLft 4 1 tt κs) (namedLft 4 2 tt κs) (namedLft 4 3 tt κs)) (T′.the-copy (namedLft 4 0 tt κs) (namedLft 4 1 tt κs) (namedLft 4 2 tt κs) (namedLft 4 3 tt κs)) 𝓤 H A W .twice d (mach ∷ [])) $ split ! $ move ! (0 ∷ 2 ∷ []) $ fjoin ! $ frame ! $
       -- [what the struct owns]: the number's facts take the place of at's
-      owned ! usize (Is usize) (uint-makes 𝓤 H A W w64) n _ (refl, ok) $ move ! (1 ∷ 0 ∷ []) $ by ! (own-put 𝓤 H A W (T.the-type (namedLft 3 0 tt κs) (namedLft 3 1 tt κs) (namedLft 3 2 tt κs)) (T′.the-laws (namedLft 3 0 tt κs) (namedLft 3 1 tt κs) (namedLft 3 2 tt κs)) 3 (d .schema, (d .message, (d .path, (d .element, (d .width, tt))))) n mach)
+      owned ! usize (Is usize) (uint-makes 𝓤 H A W w64) n _ (refl, ok) $ move ! (1 ∷ 0 ∷ []) $ by ! (own-put 𝓤 H A W (T.the-type (namedLft 4 0 tt κs) (namedLft 4 1 tt κs) (namedLft 4 2 tt κs) (namedLft 4 3 tt κs)) (T′.the-laws (namedLft 4 0 tt κs) (namedLft 4 1 tt κs) (namedLft 4 2 tt κs) (namedLft 4 3 tt κs)) 4 (d .schema, (d .positions, (d .message, (d .path, (d .element, (d .width, tt)))))) n mach)
 
   module _ (C : Calls 𝓤 H) (Λ : Loops 𝓤 H) where
-    walk : Holds (hasTy (T′.mir (named 0) (named 1) (named 2)) mach) × WT mach → ent 𝓤 (onEntry 𝓤 H A moved.signature κs (q, (q′, (q″, tt))) (d, (n, tt)) at) (WpFn 𝓤 H C Λ code.function (mach ∷ vint w64 n ∷ []) Post)
+    walk : Holds (hasTy (T′.mir (named 0) (named 1) (named 2) (named 3)) mach) × WT mach → ent 𝓤 (onEntry 𝓤 H A moved.signature κs (q, (q₁, (q₂, (q₃, tt)))) (d, (n, tt)) at) (WpFn 𝓤 H C Λ code.function (mach ∷ vint w64 n ∷ []) Post)
     walk wt =
-        qed W ((‵ (flft κ q) ⊛ ‵ (flft κ′ q′) ⊛ ‵ (flft κ″ q″) ⊛ ‵ ftrue) ∷ ‵ (owns (B κs ∷ usize ∷ []) (d, (n, tt)) at) ∷ []) ∵ enter ! C Λ code.function (mach ∷ vint w64 n ∷ []) _ $
-        alloc1 ! (λ l₀. alloc1 ! (λ l₁. alloc1 ! (λ l₂. alloc1 ! (λ l₃. alloc1 ! (λ l₄. alloc1 ! (λ l₅. alloc1 ! (λ l₆. alloc0 ! $ params1 ! $ pass1 ! (init ! 10 refl wt) $ pass1 ! (init ! 8 refl (tt, record { fits = ok })) $ pass0 ! $
-        assigns ! (of-opd ! (load ! (from ! (fld ! refl (stop !))) (look-in ! 10 (sub ! 0 refl (whole !))))) (from ! (stop !)) (init ! 6 refl (tt, wt .1 .0)) $
-        assigns ! (of-opd ! (load ! (from ! (fld ! refl (stop !))) (look-in ! 10 (sub ! 1 refl (whole !))))) (from ! (stop !)) (init ! 4 refl (tt, wt .1 .1 .0)) $
-        assigns ! (of-opd ! (load ! (from ! (fld ! refl (stop !))) (look-in ! 10 (sub ! 2 refl (whole !))))) (from ! (stop !)) (init ! 2 refl (tt, wt .1 .1 .1 .0)) $
-        assigns ! (of-opd ! (load ! (from ! (fld ! refl (stop !))) (look-in ! 10 (sub ! 4 refl (whole !))))) (from ! (stop !)) (init ! 0 refl (tt, wt .1 .1 .1 .1 .1 .0)) $
-        assigns ! (agg ! (and-then ! (load ! (from ! (stop !)) (look ! 6 refl)) (and-then ! (load ! (from ! (stop !)) (look ! 4 refl)) (and-then ! (load ! (from ! (stop !)) (look ! 2 refl)) (and-then ! (load ! (from ! (stop !)) (look ! 8 refl)) (and-then ! (load ! (from ! (stop !)) (look ! 0 refl)) (no-more !))))))) (from ! (stop !)) (init ! 12 refl (tt, (wt .1 .0, (wt .1 .1 .0, (wt .1 .1 .1 .0, (record { fits = ok }, (wt .1 .1 .1 .1 .1 .0, tt))))))) $
-        returns ! (look ! 12 refl) $ forget ! 0 refl $ forget ! 2 refl $ forget ! 4 refl $ forget ! 6 refl $ forget ! 8 refl $ forget ! 10 refl $ forget ! 12 refl $
-        move ! (12 ∷ 13 ∷ []) $ free1 ! $ move ! (10 ∷ 11 ∷ []) $ free1 ! $ move ! (8 ∷ 9 ∷ []) $ free1 ! $ move ! (6 ∷ 7 ∷ []) $ free1 ! $ move ! (4 ∷ 5 ∷ []) $ free1 ! $ move ! (2 ∷ 3 ∷ []) $ free1 ! $ free1 ! $ free0 ! $ by ! exits)))))))
+        qed W ((‵ (flft κ q) ⊛ ‵ (flft κ₁ q₁) ⊛ ‵ (flft κ₂ q₂) ⊛ ‵ (flft κ₃ q₃) ⊛ ‵ ftrue) ∷ ‵ (owns (B κs ∷ usize ∷ []) (d, (n, tt)) at) ∷ []) ∵ enter ! C Λ code.function (mach ∷ vint w64 n ∷ []) _ $
+        alloc1 ! (λ l₀. alloc1 ! (λ l₁. alloc1 ! (λ l₂. alloc1 ! (λ l₃. alloc1 ! (λ l₄. alloc1 ! (λ l₅. alloc1 ! (λ l₆. alloc1 ! (λ l₇. alloc0 ! $ params1 ! $ pass1 ! (init ! 12 refl wt) $ pass1 ! (init ! 10 refl (tt, record { fits = ok })) $ pass0 ! $
+        assigns ! (of-opd ! (load ! (from ! (fld ! refl (stop !))) (look-in ! 12 (sub ! 0 refl (whole !))))) (from ! (stop !)) (init ! 8 refl (tt, wt .1 .0)) $
+        assigns ! (of-opd ! (load ! (from ! (fld ! refl (stop !))) (look-in ! 12 (sub ! 1 refl (whole !))))) (from ! (stop !)) (init ! 6 refl (tt, wt .1 .1 .0)) $
+        assigns ! (of-opd ! (load ! (from ! (fld ! refl (stop !))) (look-in ! 12 (sub ! 2 refl (whole !))))) (from ! (stop !)) (init ! 4 refl (tt, wt .1 .1 .1 .0)) $
+        assigns ! (of-opd ! (load ! (from ! (fld ! refl (stop !))) (look-in ! 12 (sub ! 3 refl (whole !))))) (from ! (stop !)) (init ! 2 refl (tt, wt .1 .1 .1 .1 .0)) $
+        assigns ! (of-opd ! (load ! (from ! (fld ! refl (stop !))) (look-in ! 12 (sub ! 5 refl (whole !))))) (from ! (stop !)) (init ! 0 refl (tt, wt .1 .1 .1 .1 .1 .1 .0)) $
+        assigns ! (agg ! (and-then ! (load ! (from ! (stop !)) (look ! 8 refl)) (and-then ! (load ! (from ! (stop !)) (look ! 6 refl)) (and-then ! (load ! (from ! (stop !)) (look ! 4 refl)) (and-then ! (load ! (from ! (stop !)) (look ! 2 refl)) (and-then ! (load ! (from ! (stop !)) (look ! 10 refl)) (and-then ! (load ! (from ! (stop !)) (look ! 0 refl)) (no-more !)))))))) (from ! (stop !)) (init ! 14 refl (tt, (wt .1 .0, (wt .1 .1 .0, (wt .1 .1 .1 .0, (wt .1 .1 .1 .1 .0, (record { fits = ok }, (wt .1 .1 .1 .1 .1 .1 .0, tt)))))))) $
+        returns ! (look ! 14 refl) $ forget ! 0 refl $ forget ! 2 refl $ forget ! 4 refl $ forget ! 6 refl $ forget ! 8 refl $ forget ! 10 refl $ forget ! 12 refl $ forget ! 14 refl $
+        move ! (14 ∷ 15 ∷ []) $ free1 ! $ move ! (12 ∷ 13 ∷ []) $ free1 ! $ move ! (10 ∷ 11 ∷ []) $ free1 ! $ move ! (8 ∷ 9 ∷ []) $ free1 ! $ move ! (6 ∷ 7 ∷ []) $ free1 ! $ move ! (4 ∷ 5 ∷ []) $ free1 ! $ move ! (2 ∷ 3 ∷ []) $ free1 ! $ free1 ! $ free0 ! $ by ! exits))))))))
 
 module _ {M : Type 1} (𝓤 : URA M) (H : Heap 𝓤) (A : Atoms 𝓤) (W : Given 𝓤 H A) (mem : Memory → SProp 𝓤) (run : Routine → Fun 𝓤) where
   moved-walks : (C : Calls 𝓤 H) (Λ : Loops 𝓤 H) → Walks 𝓤 H A moved.ended stayed (WpFn 𝓤 H C Λ code.function) (moved.clauses 𝓤 H A mem run)
-  moved-walks C Λ = walked 𝓤 H A moved.ended stayed (moved.clauses 𝓤 H A mem run) (WpFn 𝓤 H C Λ code.function) (λ κs. (LL.vals (T.the-type (namedLft 3 0 tt κs) (namedLft 3 1 tt κs) (namedLft 3 2 tt κs)) (T′.the-laws (namedLft 3 0 tt κs) (namedLft 3 1 tt κs) (namedLft 3 2 tt κs)), (uint-vals w64, tt))) (λ κs. (LL.tells (T.the-type (namedLft 3 0 tt κs) (namedLft 3 1 tt κs) (namedLft 3 2 tt κs)) (T′.the-laws (namedLft 3 0 tt κs) (namedLft 3 1 tt κs) (namedLft 3 2 tt κs)), (uint-tells w64, tt)))
-      (λ κs qs bounds a g are. via 𝓤 _ (fst∗ 𝓤 _ (emp 𝓤)) (walk 𝓤 H A W mem run (κs .0) (κs .1 .0) (κs .1 .1 .0) (qs .0) (qs .1 .0) (qs .1 .1 .0) (a .0) (a .1 .0) (are .1 .0 .1) C Λ (LL.lawful (T.the-type (namedLft 3 0 tt κs) (namedLft 3 1 tt κs) (namedLft 3 2 tt κs)) (T′.the-laws (namedLft 3 0 tt κs) (namedLft 3 1 tt κs) (namedLft 3 2 tt κs)) 𝓤 H A W .typed (a .0) _ (are .0) .0)))
+  moved-walks C Λ = walked 𝓤 H A moved.ended stayed (moved.clauses 𝓤 H A mem run) (WpFn 𝓤 H C Λ code.function) (λ κs. (LL.vals (T.the-type (namedLft 4 0 tt κs) (namedLft 4 1 tt κs) (namedLft 4 2 tt κs) (namedLft 4 3 tt κs)) (T′.the-laws (namedLft 4 0 tt κs) (namedLft 4 1 tt κs) (namedLft 4 2 tt κs) (namedLft 4 3 tt κs)), (uint-vals w64, tt))) (λ κs. (LL.tells (T.the-type (namedLft 4 0 tt κs) (namedLft 4 1 tt κs) (namedLft 4 2 tt κs) (namedLft 4 3 tt κs)) (T′.the-laws (namedLft 4 0 tt κs) (namedLft 4 1 tt κs) (namedLft 4 2 tt κs) (namedLft 4 3 tt κs)), (uint-tells w64, tt)))
+      (λ κs qs bounds a g are. via 𝓤 _ (fst∗ 𝓤 _ (emp 𝓤)) (walk 𝓤 H A W mem run (κs .0) (κs .1 .0) (κs .1 .1 .0) (κs .1 .1 .1 .0) (qs .0) (qs .1 .0) (qs .1 .1 .0) (qs .1 .1 .1 .0) (a .0) (a .1 .0) (are .1 .0 .1) C Λ (LL.lawful (T.the-type (namedLft 4 0 tt κs) (namedLft 4 1 tt κs) (namedLft 4 2 tt κs) (namedLft 4 3 tt κs)) (T′.the-laws (namedLft 4 0 tt κs) (namedLft 4 1 tt κs) (namedLft 4 2 tt κs) (namedLft 4 3 tt κs)) 𝓤 H A W .typed (a .0) _ (are .0) .0)))
 
 moved-meets : {M : Type 1} (𝓤 : URA M) (H : Heap 𝓤) (A : Atoms 𝓤) → Given 𝓤 H A → (mem : Memory → SProp 𝓤) (run : Routine → Fun 𝓤) (𝓣 : Tables 𝓤 H)
     → Meets 𝓤 H A moved.signature (WpFn 𝓤 H (𝓣 .C) (𝓣 .Λ) code.function) (moved.spec 𝓤 H A mem run)
-moved-meets 𝓤 H A W mem run 𝓣 = walk-meets 𝓤 H A moved.ended stayed W (goes-none 𝓤 H A W 3 B yes (λ κs x f. refl), (goes-none 𝓤 H A W 3 (λ _. usize) yes (λ κs x f. refl), tt)) (moved.clauses 𝓤 H A mem run) (WpFn 𝓤 H (𝓣 .C) (𝓣 .Λ) code.function) (WpFn-mono 𝓤 H (W .laws) 𝓣 code.function) (moved-walks 𝓤 H A W mem run (𝓣 .C) (𝓣 .Λ))
+moved-meets 𝓤 H A W mem run 𝓣 = walk-meets 𝓤 H A moved.ended stayed W (goes-none 𝓤 H A W 4 B yes (λ κs x f. refl), (goes-none 𝓤 H A W 4 (λ _. usize) yes (λ κs x f. refl), tt)) (moved.clauses 𝓤 H A mem run) (WpFn 𝓤 H (𝓣 .C) (𝓣 .Λ) code.function) (WpFn-mono 𝓤 H (W .laws) 𝓣 code.function) (moved-walks 𝓤 H A W mem run (𝓣 .C) (𝓣 .Λ))
 
 pub moved-spec : {M : Type 1} → stated.statement M
 unfolding code.routine tablesOf

@@ -1,5 +1,5 @@
-use Rattle.message_object.proofs.OpenCases.{schema-accepted}
-use Rattle.judge.proofs.VerdictCases.{verdict-unlawful}
+use Rattle.positions.specs.Lent.{lent-accepted}
+use Rattle.judge.proofs.VerdictCases.{verdict-lent, verdict-unlawful}
 use borrow.Author.Needs.{needs}
 use Rattle.judge.proofs.judge.Statement.{statement}
 use Rattle.judge.proofs.judge.Tie as tie
@@ -14,10 +14,10 @@ slice-aggregate-judged : tie.Need-slice-aggregate-judged
 slice-aggregate-judged c = search needs
 
 judged-requires : tie.Need-judged-requires
-judged-requires c κs = search schema-accepted
+judged-requires c κs = lent-accepted _ _ _ _ _ (c .before .before .before .judge-schema .ensures) (c .before .if1 .taken)
 
 returns : tie.Need-returns
-returns c = search needs
+returns c = search verdict-lent
 
 early-requires : tie.Need-early-requires
 early-requires c κs = search needs

@@ -1,3 +1,4 @@
+use Rattle.promises.proofs.Tables.{lent-bytes, old-field, other-field}
 use Rattle.promises.proofs.Promised.{shows-entry, shows-refusal}
 use Rattle.promises.proofs.Reading.{hands-out}
 use borrow.Author.Needs.{needs}
@@ -18,18 +19,21 @@ returns c =
     let ea = c .before .before .read .ensures .0 in
     let eo = c .before .before .read .ensures .1 in
     let eq = c .before .before .before .before .field .ensures in
-    let schema-known = c .before .before .before .before .before .before .before .before .shared-slice-known in
-    let message-known = c .before .before .before .before .before .before .before .shared-slice-known2 in (
+    let schema-known = c .before .before .before .before .before .before .before .before .before .shared-slice-known in
+    let message-known = c .before .before .before .before .before .before .before .shared-slice-known3 in (
       eq,
       (
         ea,
         (
           eo,
           (
-            λ accepted short. shows-entry _ _ _ (λ i. schema-known .given i .fits) (λ i. message-known .given i .fits) _ _ accepted short _ eq,
+            λ accepted short. shows-entry _ _ _ (lent-bytes _ _ _ (λ i. schema-known .given i .fits)) (λ i. message-known .given i .fits) _ _ accepted short _ eq,
             (
               hands-out _ _ _ _ _ _ _ ea eo,
-              λ accepted short. shows-refusal _ _ _ (λ i. schema-known .given i .fits) (λ i. message-known .given i .fits) _ _ accepted short _ eq,
+              (
+                λ accepted short. shows-refusal _ _ _ (lent-bytes _ _ _ (λ i. schema-known .given i .fits)) (λ i. message-known .given i .fits) _ _ accepted short _ eq,
+                (λ table. old-field _ _ _ table _ _ _ eq, λ other. other-field _ _ _ other _ _ _ eq),
+              ),
             ),
           ),
         ),

@@ -1,3 +1,4 @@
+use Rattle.promises.proofs.Tables.{old-verdict, other-verdict}
 use Rattle.promises.proofs.Promised.{judges-exactly, judges-arrivals, judges-content}
 use borrow.Author.Needs.{needs}
 use Rattle.promises.proofs.judged.Statement.{statement}
@@ -11,7 +12,16 @@ returns c = (
   c .judge .ensures,
   (
     judges-exactly _ _ _ _ _ (c .judge .ensures),
-    (judges-arrivals _ _ _ _ _ (c .judge .ensures), judges-content _ _ _ _ _ (c .judge .ensures)),
+    (
+      judges-arrivals _ _ _ _ _ (c .judge .ensures),
+      (
+        judges-content _ _ _ _ _ (c .judge .ensures),
+        (
+          λ table. old-verdict _ _ _ table _ _ _ (c .judge .ensures),
+          λ other. other-verdict _ _ _ other _ _ _ (c .judge .ensures),
+        ),
+      ),
+    ),
   ),
 )
 

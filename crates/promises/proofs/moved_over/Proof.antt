@@ -1,4 +1,4 @@
-use Rattle.promises.proofs.MovedOver.{clear-within, clear-part, schema-clears, schema-cleared, move-reasons, back-same, back-sheet}
+use Rattle.promises.proofs.MovedOver.{clear-within, clear-part, schema-clears, schema-cleared, move-reasons, back-lent, back-sheet}
 use Rattle.promises.proofs.Reading.{read-within, read-part}
 use Rattle.promises.proofs.Writing.{within-room, part-length}
 use borrow.Author.Needs.{needs}
@@ -59,8 +59,8 @@ returns c =
     let k = c .before .before .before .before .before .before .before .before .before .before .before .before .before .before .clear-unions .ensures in
     let w = c .before .before .before .before .before .before .before .before .write .ensures in
     let e = c .before .before .read2 .ensures in
-    let schema-known = c .before .before .before .before .before .before .before .before .before .before .before .before .before .before .before .before .before .before .before .before .before .before .before .before .before .shared-slice-known in
-    let message-known = c .before .before .before .before .before .before .before .before .before .before .before .before .before .before .before .before .before .before .before .before .before .before .before .before .shared-slice-known2 in (
+    let schema-known = c .before .before .before .before .before .before .before .before .before .before .before .before .before .before .before .before .before .before .before .before .before .before .before .before .before .before .before .shared-slice-known in
+    let message-known = c .before .before .before .before .before .before .before .before .before .before .before .before .before .before .before .before .before .before .before .before .before .before .before .before .before .shared-slice-known3 in (
       r .0,
       (
         r .1,
@@ -77,14 +77,14 @@ returns c =
                   (
                     e .1,
                     (
-                      λ h. schema-clears _ _ (λ i. schema-known .given i .fits) (λ i. message-known .given i .fits) _ _ _ _ (r .0) (r .1) h _ _ _ (k .0) (k .1),
+                      λ h. schema-clears _ _ _ (λ i. schema-known .given i .fits) (λ i. message-known .given i .fits) _ _ _ _ (r .0) (r .1) h _ _ _ (k .0) (k .1),
                       (
-                        λ h. schema-cleared _ _ (λ i. schema-known .given i .fits) (λ i. message-known .given i .fits) _ _ _ _ (r .0) (r .1) h _ _ _ (k .0) (k .1),
+                        λ h. schema-cleared _ _ _ (λ i. schema-known .given i .fits) (λ i. message-known .given i .fits) _ _ _ _ (r .0) (r .1) h _ _ _ (k .0) (k .1),
                         (
-                          λ h g. move-reasons _ _ (λ i. schema-known .given i .fits) (λ i. message-known .given i .fits) _ _ _ _ (r .0) (r .1) h _ _ _ (k .0) (k .1) g _ _ _ (w .0) (w .1),
+                          λ h g. move-reasons _ _ _ (λ i. schema-known .given i .fits) (λ i. message-known .given i .fits) _ _ _ _ (r .0) (r .1) h _ _ _ (k .0) (k .1) g _ _ _ (w .0) (w .1),
                           (
-                            λ h g z. back-same _ _ (λ i. schema-known .given i .fits) (λ i. message-known .given i .fits) _ _ _ _ (r .0) (r .1) h _ _ _ (k .0) (k .1) g _ _ _ (w .0) (w .1) z _ _ _ _ (e .0) (e .1),
-                            λ h g z. back-sheet _ _ (λ i. schema-known .given i .fits) (λ i. message-known .given i .fits) _ _ _ _ (r .0) (r .1) h _ _ _ (k .0) (k .1) g _ _ _ (w .0) (w .1) z,
+                            λ h g z t. back-lent _ _ _ (λ i. schema-known .given i .fits) (λ i. message-known .given i .fits) _ _ _ _ (r .0) (r .1) h _ _ _ (k .0) (k .1) g _ _ _ (w .0) (w .1) z _ t _ _ _ _ (e .0) (e .1),
+                            λ h g z. back-sheet _ _ _ (λ i. schema-known .given i .fits) (λ i. message-known .given i .fits) _ _ _ _ (r .0) (r .1) h _ _ _ (k .0) (k .1) g _ _ _ (w .0) (w .1) z,
                           ),
                         ),
                       ),

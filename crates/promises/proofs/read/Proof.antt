@@ -1,3 +1,4 @@
+use Rattle.promises.proofs.Tables.{lent-bytes, old-read, other-read}
 use Rattle.promises.proofs.Promised.{reads-exactly, reads-arrivals, reads-content, reads-room, reads-lawful}
 use Rattle.promises.proofs.Reading.{hands-out, refused-kept}
 use borrow.Author.Needs.{needs}
@@ -14,8 +15,8 @@ returns : tie.Need-returns
 returns c =
     let ea = c .before .before .read .ensures .0 in
     let eo = c .before .before .read .ensures .1 in
-    let schema-known = c .before .before .before .before .before .before .shared-slice-known in
-    let message-known = c .before .before .before .before .before .shared-slice-known2 in (
+    let schema-known = c .before .before .before .before .before .before .before .shared-slice-known in
+    let message-known = c .before .before .before .before .before .shared-slice-known3 in (
       ea,
       (
         eo,
@@ -29,7 +30,13 @@ returns c =
                 reads-room _ _ _ _ _ _ ea,
                 (
                   refused-kept _ _ _ _ _ _ _ ea eo,
-                  (hands-out _ _ _ _ _ _ _ ea eo, reads-lawful _ _ _ (λ i. schema-known .given i .fits) (λ i. message-known .given i .fits) _ _ _ _ ea eo),
+                  (
+                    hands-out _ _ _ _ _ _ _ ea eo,
+                    (
+                      reads-lawful _ _ _ (lent-bytes _ _ _ (λ i. schema-known .given i .fits)) (λ i. message-known .given i .fits) _ _ _ _ ea eo,
+                      (λ table. old-read _ _ _ table _ _ _ _ _ ea eo, λ other. other-read _ _ _ other _ _ _ _ _ ea eo),
+                    ),
+                  ),
                 ),
               ),
             ),

@@ -22,9 +22,9 @@ returns c =
     let eo = c .before .before .before .before .before .before .read .ensures .1 in
     let ec = c .before .before .read2 .ensures .0 in
     let en = c .before .before .read2 .ensures .1 in
-    let older-known = c .before .before .before .before .before .before .before .before .before .before .before .before .shared-slice-known in
-    let newer-known = c .before .before .before .before .before .before .before .before .before .before .before .shared-slice-known2 in
-    let message-known = c .before .before .before .before .before .before .before .before .before .before .shared-slice-known3 in (
+    let older-known = c .before .before .before .before .before .before .before .before .before .before .before .before .before .before .shared-slice-known in
+    let newer-known = c .before .before .before .before .before .before .before .before .before .before .before .before .shared-slice-known3 in
+    let message-known = c .before .before .before .before .before .before .before .before .before .before .shared-slice-known5 in (
       ea,
       (
         eo,
@@ -33,8 +33,8 @@ returns c =
           (
             en,
             (
-              older-reads _ _ _ _ (λ i. older-known .given i .fits) (λ i. newer-known .given i .fits) (λ i. message-known .given i .fits) _ _ _ _ ea eo,
-              (older-hands-out _ _ _ _ (λ i. older-known .given i .fits) (λ i. newer-known .given i .fits) (λ i. message-known .given i .fits) _ _ _ _ ea eo, hands-out _ _ _ _ _ _ _ ec en),
+              older-reads _ _ _ _ _ (λ i. older-known .given i .fits) (λ i. newer-known .given i .fits) (λ i. message-known .given i .fits) _ _ _ _ ea eo,
+              (older-hands-out _ _ _ _ _ (λ i. older-known .given i .fits) (λ i. newer-known .given i .fits) (λ i. message-known .given i .fits) _ _ _ _ ea eo, hands-out _ _ _ _ _ _ _ ec en),
             ),
           ),
         ),

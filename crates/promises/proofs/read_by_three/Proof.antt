@@ -27,10 +27,10 @@ returns c =
     let ea = c .before .before .before .before .before .before .before .before .before .before .read .ensures in
     let eb = c .before .before .before .before .before .before .read2 .ensures in
     let ec = c .before .before .read3 .ensures in
-    let oldest-known = c .before .before .before .before .before .before .before .before .before .before .before .before .before .before .before .before .before .before .shared-slice-known in
-    let middle-known = c .before .before .before .before .before .before .before .before .before .before .before .before .before .before .before .before .before .shared-slice-known2 in
-    let newest-known = c .before .before .before .before .before .before .before .before .before .before .before .before .before .before .before .before .shared-slice-known3 in
-    let message-known = c .before .before .before .before .before .before .before .before .before .before .before .before .before .before .before .shared-slice-known4 in (
+    let oldest-known = c .before .before .before .before .before .before .before .before .before .before .before .before .before .before .before .before .before .before .before .before .before .shared-slice-known in
+    let middle-known = c .before .before .before .before .before .before .before .before .before .before .before .before .before .before .before .before .before .before .before .shared-slice-known3 in
+    let newest-known = c .before .before .before .before .before .before .before .before .before .before .before .before .before .before .before .before .before .shared-slice-known5 in
+    let message-known = c .before .before .before .before .before .before .before .before .before .before .before .before .before .before .before .shared-slice-known7 in (
       ea .0,
       (
         ea .1,
@@ -43,7 +43,7 @@ returns c =
               (
                 ec .1,
                 (
-                  three-read _ _ _ _ _ (λ i. oldest-known .given i .fits) (λ i. middle-known .given i .fits) (λ i. newest-known .given i .fits) (λ i. message-known .given i .fits) _ _ _ _ (ea .0) (ea .1) _ _ _ (eb .0) (eb .1),
+                  three-read _ _ _ _ _ (λ i. oldest-known .given i .fits) (λ i. middle-known .given i .fits) (λ i. newest-known .given i .fits) (λ i. message-known .given i .fits) _ _ _ _ _ _ (ea .0) (ea .1) _ _ _ (eb .0) (eb .1),
                   hands-out _ _ _ _ _ _ _ (ec .0) (ec .1),
                 ),
               ),

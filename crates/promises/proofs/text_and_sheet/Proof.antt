@@ -1,3 +1,4 @@
+use Rattle.promises.proofs.Tables.{lent-bytes, old-span, other-span}
 use Rattle.promises.proofs.Promised.{shows-text, there-exactly, there-long}
 use Rattle.promises.proofs.Reading.{hands-out}
 use borrow.Author.Needs.{needs}
@@ -19,8 +20,8 @@ returns c =
     let eo = c .before .before .read .ensures .1 in
     let ep = c .before .before .before .before .text-span .ensures .0 in
     let within = c .before .before .before .before .text-span .ensures .1 in
-    let schema-known = c .before .before .before .before .before .before .before .before .shared-slice-known in
-    let message-known = c .before .before .before .before .before .before .before .shared-slice-known2 in (
+    let schema-known = c .before .before .before .before .before .before .before .before .before .shared-slice-known in
+    let message-known = c .before .before .before .before .before .before .before .shared-slice-known3 in (
       ep,
       (
         ea,
@@ -33,8 +34,8 @@ returns c =
               (
                 there-long _ _ _ _ _ ep,
                 (
-                  λ accepted short. shows-text _ _ _ (λ i. schema-known .given i .fits) (λ i. message-known .given i .fits) _ _ accepted short _ ep,
-                  hands-out _ _ _ _ _ _ _ ea eo,
+                  λ accepted short. shows-text _ _ _ (lent-bytes _ _ _ (λ i. schema-known .given i .fits)) (λ i. message-known .given i .fits) _ _ accepted short _ ep,
+                  (hands-out _ _ _ _ _ _ _ ea eo, (λ table. old-span _ _ _ table _ _ _ ep, λ other. other-span _ _ _ other _ _ _ ep)),
                 ),
               ),
             ),

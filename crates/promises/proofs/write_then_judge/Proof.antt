@@ -34,14 +34,14 @@ returns c =
     let er = c .before .before .before .before .before .before .write .ensures .1 in
     let by-older = c .before .before .judge .ensures in
     let by-newer = c .judge2 .ensures in
-    let older-known = c .before .before .before .before .before .before .before .before .before .before .before .shared-slice-known in
-    let sheet-known = c .before .before .before .before .before .before .before .before .before .shared-slice-known3 in (
+    let older-known = c .before .before .before .before .before .before .before .before .before .before .before .before .before .shared-slice-known in
+    let sheet-known = c .before .before .before .before .before .before .before .before .before .shared-slice-known5 in (
       ew,
       (
         er,
         (
           by-older,
-          (by-newer, λ appends h. same-verdict _ _ _ (λ i. older-known .given i .fits) (λ i. sheet-known .given i .fits) _ _ _ ew er h _ appends _ _ _ by-older by-newer),
+          (by-newer, λ appends h. same-verdict _ _ _ (λ i. older-known .given i .fits) (λ i. sheet-known .given i .fits) _ _ _ ew er h _ appends _ _ _ _ _ by-older by-newer),
         ),
       ),
     )

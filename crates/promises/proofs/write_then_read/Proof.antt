@@ -28,8 +28,8 @@ returns c =
     let er = c .before .before .before .before .before .before .before .write .ensures .1 in
     let ea = c .before .before .read .ensures .0 in
     let eo = c .before .before .read .ensures .1 in
-    let schema-known = c .before .before .before .before .before .before .before .before .before .before .before .before .shared-slice-known in
-    let sheet-known = c .before .before .before .before .before .before .before .before .before .before .before .shared-slice-known2 in (
+    let schema-known = c .before .before .before .before .before .before .before .before .before .before .before .before .before .shared-slice-known in
+    let sheet-known = c .before .before .before .before .before .before .before .before .before .before .before .shared-slice-known3 in (
       ew,
       (
         er,
@@ -38,14 +38,14 @@ returns c =
           (
             eo,
             (
-              λ h. reads-back _ _ _ (λ i. schema-known .given i .fits) (λ i. sheet-known .given i .fits) _ _ _ ew er h _ _ _ _ ea eo,
+              λ h. reads-back _ _ _ (λ i. schema-known .given i .fits) (λ i. sheet-known .given i .fits) _ _ _ ew er h _ _ _ _ _ ea eo,
               (
                 λ h. trip-sheet _ _ _ (λ i. schema-known .given i .fits) (λ i. sheet-known .given i .fits) _ _ _ ew er h,
                 (
-                  λ h. falls-short _ _ _ (λ i. schema-known .given i .fits) (λ i. sheet-known .given i .fits) _ _ _ ew er h _ _ _ _ ea eo,
+                  λ h. falls-short _ _ _ (λ i. schema-known .given i .fits) (λ i. sheet-known .given i .fits) _ _ _ ew er h _ _ _ _ _ ea eo,
                   (
-                    λ h. few-visits _ _ _ (λ i. schema-known .given i .fits) (λ i. sheet-known .given i .fits) _ _ _ ew er h _ _ _ _ ea eo,
-                    λ h. little-content _ _ _ (λ i. schema-known .given i .fits) (λ i. sheet-known .given i .fits) _ _ _ ew er h _ _ _ _ ea eo,
+                    λ h. few-visits _ _ _ (λ i. schema-known .given i .fits) (λ i. sheet-known .given i .fits) _ _ _ ew er h _ _ _ _ _ ea eo,
+                    λ h. little-content _ _ _ (λ i. schema-known .given i .fits) (λ i. sheet-known .given i .fits) _ _ _ ew er h _ _ _ _ _ ea eo,
                   ),
                 ),
               ),

@@ -28,8 +28,8 @@ returns c =
     let er = c .before .before .before .before .before .before .before .write .ensures .1 in
     let ea = c .before .before .read .ensures .0 in
     let eo = c .before .before .read .ensures .1 in
-    let older-known = c .before .before .before .before .before .before .before .before .before .before .before .before .before .shared-slice-known in
-    let sheet-known = c .before .before .before .before .before .before .before .before .before .before .before .shared-slice-known3 in (
+    let older-known = c .before .before .before .before .before .before .before .before .before .before .before .before .before .before .shared-slice-known in
+    let sheet-known = c .before .before .before .before .before .before .before .before .before .before .before .shared-slice-known4 in (
       ew,
       (
         er,
@@ -38,9 +38,9 @@ returns c =
           (
             eo,
             (
-              λ appends h. reads-added _ _ _ (λ i. older-known .given i .fits) (λ i. sheet-known .given i .fits) _ _ _ ew er h _ appends _ _ _ _ ea eo,
+              λ appends h. reads-added _ _ _ (λ i. older-known .given i .fits) (λ i. sheet-known .given i .fits) _ _ _ ew er h _ appends _ _ _ _ _ ea eo,
               (
-                λ appends h. hands-added _ _ _ (λ i. older-known .given i .fits) (λ i. sheet-known .given i .fits) _ _ _ ew er h _ appends _ _ _ _ ea eo,
+                λ appends h. hands-added _ _ _ (λ i. older-known .given i .fits) (λ i. sheet-known .given i .fits) _ _ _ ew er h _ appends _ _ _ _ _ ea eo,
                 λ appends h. added-sheet _ _ _ (λ i. older-known .given i .fits) (λ i. sheet-known .given i .fits) _ _ _ ew er h _ appends,
               ),
             ),

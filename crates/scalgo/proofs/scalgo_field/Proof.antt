@@ -18,7 +18,7 @@ case-of-requires c κs = search needs
 
 returns : tie.Need-returns
 returns c =
-    let f = field-by _ _ (c .before .before .width-of .ensures) _ _ _ _ (c .before .field .ensures) in
+    let f = field-by _ _ (c .before .before .width-of .ensures) _ _ _ _ _ (c .before .field .ensures) in
     let e = c .case-of .ensures ∙ ap answerCase f in
     (ap (λ (x : Case). x .case) e, (ap (λ (x : Case). x .a) e, (ap (λ (x : Case). x .b) e, ap (λ (x : Case). x .c) e)))
 

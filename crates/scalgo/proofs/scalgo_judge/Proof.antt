@@ -22,7 +22,7 @@ cast-result c = search needs
 returns : tie.Need-returns
 returns c =
     let w = c .before .before .before .before .width-of .ensures in
-    let e = judge-by _ _ w _ _ _ _ (c .before .before .before .judge .ensures) in
+    let e = judge-by _ _ w _ _ _ _ _ (c .before .before .before .judge .ensures) in
     (ap (λ (v : Verdict). v .number) e, c .before .store .ensures ∙ ap verdictNumbers e)
 
 pub scalgo-judge-spec : {M : Type 1} → statement M

@@ -17,7 +17,7 @@ returns : tie.Need-returns
 returns c =
     let got = c .before .before .read-list .ensures in
     let w = c .before .before .before .before .width-of .ensures in
-    (count-by _ _ w _ _ _ _ (got .0), over-by _ _ w _ _ _ _ _ _ (got .1))
+    (count-by _ _ w _ _ _ _ _ (got .0), over-by _ _ w _ _ _ _ _ _ _ (got .1))
 
 pub scalgo-list-spec : {M : Type 1} → statement M
 scalgo-list-spec = tie.close (tie.spec width-of-requires read-list-requires same-length returns)

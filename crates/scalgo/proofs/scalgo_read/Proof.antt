@@ -26,11 +26,11 @@ returns : tie.Need-returns
 returns c =
     let read = c .before .before .before .before .before .before .read .ensures in
     let w = c .before .before .before .before .before .before .before .before .width-of .ensures in
-    let e = read-by _ _ w _ _ _ _ _ (read .0) in (
+    let e = read-by _ _ w _ _ _ _ _ _ (read .0) in (
       ap (λ (x : ReadAnswer). x .verdict .number) e,
       (
         c .before .store .ensures ∙ ap (λ (x : ReadAnswer). verdictNumbers (x .verdict)) e,
-        (ap (λ (x : ReadAnswer). x .length) e, read-out-by _ _ w _ _ _ _ _ (read .1)),
+        (ap (λ (x : ReadAnswer). x .length) e, read-out-by _ _ w _ _ _ _ _ _ (read .1)),
       ),
     )
 

@@ -25,7 +25,7 @@ bit false = refl
 
 returns : tie.Need-returns
 returns c =
-    let e = span-by _ _ (c .before .before .width-of .ensures) _ _ _ _ (c .before .text-span .ensures .0) in (
+    let e = span-by _ _ (c .before .before .width-of .ensures) _ _ _ _ _ (c .before .text-span .ensures .0) in (
       bit (c .before .text-span .result .there) ∙ ap (λ (x : Span). pick {A = ℕ} (x .there) 1 0) e,
       (ap (λ (x : Span). x .start) e, (ap (λ (x : Span). x .length) e, c .before .text-span .ensures .1)),
     )

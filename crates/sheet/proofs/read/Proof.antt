@@ -1,4 +1,5 @@
-use Rattle.sheet.proofs.Whole.{schema-accepted, unlawful-answer, unlawful-over}
+use Rattle.positions.specs.Lent.{lent-accepted}
+use Rattle.sheet.proofs.Whole.{lent-answer, lent-over, unlawful-answer, unlawful-over}
 use borrow.Author.Needs.{needs}
 use Rattle.sheet.proofs.read.Statement.{statement}
 use Rattle.sheet.proofs.read.Tie as tie
@@ -13,13 +14,13 @@ slice-aggregate-read-judged : tie.Need-slice-aggregate-read-judged
 slice-aggregate-read-judged c = search needs
 
 read-judged-requires : tie.Need-read-judged-requires
-read-judged-requires c κs = schema-accepted _ _ _ _ (c .before .before .before .before .judge-schema .ensures) (c .before .before .if1 .taken)
+read-judged-requires c κs = lent-accepted _ _ _ _ _ (c .before .before .before .before .judge-schema .ensures) (c .before .before .if1 .taken)
 
 same-length : tie.Need-same-length
 same-length c = search needs
 
 returns : tie.Need-returns
-returns c = search needs
+returns c = (search lent-answer, search lent-over)
 
 returns-2 : tie.Need-returns-2
 returns-2 c = (search unlawful-answer, search unlawful-over)

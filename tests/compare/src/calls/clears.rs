@@ -48,21 +48,22 @@ fn of_round(coding: Coding, rng: &mut Rng) -> Vec<(&'static str, Vec<u8>)> {
         ("random bytes", rng.bytes(length)),
         (
             "with a rule broken",
-            schema_faults::breaking(coding, rng, rule).bytes,
+            schema_faults::breaking(coding, rng, rule).bytes().to_vec(),
         ),
         (
             "of the other coding",
             schema_gen::with_union_in_place(coding.other(), rng)
                 .pack()
-                .bytes,
+                .bytes()
+                .to_vec(),
         ),
     ];
     for schema in [&held, &held, &held, &any] {
         let damaged = schema_faults::damaged(rng, schema);
-        out.push(("damaged", damaged.bytes));
+        out.push(("damaged", damaged.bytes().to_vec()));
     }
-    out.push(("with a union in place", held.bytes));
-    out.push(("of any sort", any.bytes));
+    out.push(("with a union in place", held.bytes().to_vec()));
+    out.push(("of any sort", any.bytes().to_vec()));
     out
 }
 
@@ -81,7 +82,9 @@ fn unions_in_place(schema: &Schema) -> usize {
 /// A schema with rooms around the one that it needs.
 fn on_schema(run: &mut Run, rng: &mut Rng, sort: &str, schema: &[u8]) -> Result<(), String> {
     let parsed = parsed(schema);
-    let cleared = parsed.as_ref().map(|schema| schema.cleared().pack().bytes);
+    let cleared = parsed
+        .as_ref()
+        .map(|schema| schema.cleared().pack().bytes().to_vec());
     run.counts.note(&match &parsed {
         Some(_) => format!("schemas {sort}, lawful"),
         None => format!("schemas {sort}, not lawful"),

@@ -7,10 +7,21 @@ use crate::schema::Packed;
 use scalgo as _;
 
 extern "C" {
+    fn scalgo_positions(
+        coding: u32,
+        schema: *const u8,
+        schema_len: usize,
+        positions: *mut u8,
+        room: usize,
+        length: *mut u64,
+    ) -> u32;
+
     fn scalgo_judge(
         coding: u32,
         schema: *const u8,
         schema_len: usize,
+        positions: *const u8,
+        positions_len: usize,
         message: *const u8,
         message_len: usize,
         visits: u32,
@@ -22,6 +33,8 @@ extern "C" {
         coding: u32,
         schema: *const u8,
         schema_len: usize,
+        positions: *const u8,
+        positions_len: usize,
         message: *const u8,
         message_len: usize,
         path: *const u32,
@@ -35,6 +48,8 @@ extern "C" {
         coding: u32,
         schema: *const u8,
         schema_len: usize,
+        positions: *const u8,
+        positions_len: usize,
         message: *const u8,
         message_len: usize,
         path: *const u32,
@@ -47,6 +62,8 @@ extern "C" {
         coding: u32,
         schema: *const u8,
         schema_len: usize,
+        positions: *const u8,
+        positions_len: usize,
         message: *const u8,
         message_len: usize,
         path: *const u32,
@@ -60,6 +77,8 @@ extern "C" {
         coding: u32,
         schema: *const u8,
         schema_len: usize,
+        positions: *const u8,
+        positions_len: usize,
         message: *const u8,
         message_len: usize,
         visits: u32,
@@ -142,9 +161,11 @@ impl Judge for LibraryCalls {
         // the call; what is stored is this function's own.
         let number = unsafe {
             scalgo_judge(
-                schema.coding,
-                schema.bytes.as_ptr(),
-                schema.bytes.len(),
+                schema.coding(),
+                schema.bytes().as_ptr(),
+                schema.bytes().len(),
+                schema.positions().as_ptr(),
+                schema.positions().len(),
                 message.as_ptr(),
                 message.len(),
                 budget.visits,
@@ -157,14 +178,32 @@ impl Judge for LibraryCalls {
 }
 
 impl Calls for LibraryCalls {
+    fn positions(&self, schema: &Packed, positions: &mut [u8]) -> [u64; 2] {
+        let mut length = UNSET;
+        // SAFETY: as in `judge`; the table is lent to this function alone.
+        let number = unsafe {
+            scalgo_positions(
+                schema.coding(),
+                schema.bytes().as_ptr(),
+                schema.bytes().len(),
+                positions.as_mut_ptr(),
+                positions.len(),
+                &mut length,
+            )
+        };
+        [u64::from(number), length]
+    }
+
     fn field(&self, schema: &Packed, message: &[u8], path: &[u32]) -> [u64; 4] {
         let (mut a, mut b, mut c) = (UNSET, UNSET, UNSET);
         // SAFETY: as in `judge`.
         let case = unsafe {
             scalgo_field(
-                schema.coding,
-                schema.bytes.as_ptr(),
-                schema.bytes.len(),
+                schema.coding(),
+                schema.bytes().as_ptr(),
+                schema.bytes().len(),
+                schema.positions().as_ptr(),
+                schema.positions().len(),
                 message.as_ptr(),
                 message.len(),
                 path.as_ptr(),
@@ -182,9 +221,11 @@ impl Calls for LibraryCalls {
         // SAFETY: as in `judge`.
         let found = unsafe {
             scalgo_text(
-                schema.coding,
-                schema.bytes.as_ptr(),
-                schema.bytes.len(),
+                schema.coding(),
+                schema.bytes().as_ptr(),
+                schema.bytes().len(),
+                schema.positions().as_ptr(),
+                schema.positions().len(),
                 message.as_ptr(),
                 message.len(),
                 path.as_ptr(),
@@ -207,9 +248,11 @@ impl Calls for LibraryCalls {
         // SAFETY: as in `judge`; the cases are lent to this function alone.
         unsafe {
             scalgo_list(
-                schema.coding,
-                schema.bytes.as_ptr(),
-                schema.bytes.len(),
+                schema.coding(),
+                schema.bytes().as_ptr(),
+                schema.bytes().len(),
+                schema.positions().as_ptr(),
+                schema.positions().len(),
                 message.as_ptr(),
                 message.len(),
                 path.as_ptr(),
@@ -226,9 +269,11 @@ impl Calls for LibraryCalls {
         // SAFETY: as in `judge`; the sheet is lent to this function alone.
         let number = unsafe {
             scalgo_read(
-                schema.coding,
-                schema.bytes.as_ptr(),
-                schema.bytes.len(),
+                schema.coding(),
+                schema.bytes().as_ptr(),
+                schema.bytes().len(),
+                schema.positions().as_ptr(),
+                schema.positions().len(),
                 message.as_ptr(),
                 message.len(),
                 budget.visits,
@@ -265,9 +310,9 @@ impl Writes for LibraryCalls {
         // SAFETY: as in `read`, with the message lent.
         let number = unsafe {
             scalgo_write(
-                schema.coding,
-                schema.bytes.as_ptr(),
-                schema.bytes.len(),
+                schema.coding(),
+                schema.bytes().as_ptr(),
+                schema.bytes().len(),
                 sheet.as_ptr(),
                 sheet.len(),
                 message.as_mut_ptr(),

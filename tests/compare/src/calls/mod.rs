@@ -6,6 +6,7 @@ pub mod fields;
 pub mod library;
 pub mod lists;
 pub mod moves;
+pub mod positions;
 pub mod reads;
 pub mod second;
 pub mod texts;
@@ -26,8 +27,11 @@ pub struct Read {
     pub length: u64,
 }
 
-/// The calls that read.
+/// The calls that make a table of positions and that read, by the schema and the table
+/// lent with it.
 pub trait Calls: Judge {
+    /// The schema's own table: number and length.
+    fn positions(&self, schema: &Packed, positions: &mut [u8]) -> [u64; 2];
     /// One field: the case and its three numbers.
     fn field(&self, schema: &Packed, message: &[u8], path: &[u32]) -> [u64; 4];
     /// A text or bytes: 1, start and length, or three times 0.

@@ -117,7 +117,7 @@ fn failed(moving: &Moving, what: &str) -> String {
 
 /// The sheet of an accepted message, which is the same for both.
 fn read(run: &Run, schema: &Packed, message: &[u8]) -> Result<Vec<u8>, String> {
-    let (_, sheet) = reference::read(schema.coding, &schema.bytes, message, AMPLE, SIZE_LIMIT);
+    let (_, sheet) = reference::read(schema.lent(), message, AMPLE, SIZE_LIMIT);
     let mut given = Output::new(sheet.len(), 3);
     let answer = run.first.read(schema, message, AMPLE, given.lent());
     let whole = answer.length == sheet.len() as u64 && given.front(sheet.len()) == sheet;
@@ -134,10 +134,10 @@ fn read(run: &Run, schema: &Packed, message: &[u8]) -> Result<Vec<u8>, String> {
 
 /// The cleared schema, which is the same for both.
 fn cleared(run: &Run, schema: &Packed) -> Result<Vec<u8>, String> {
-    let length = schema.bytes.len();
+    let length = schema.bytes().len();
     let clear = |program: &dyn Writes| {
         let mut output = Output::new(length, 5);
-        let answer = program.clear(&schema.bytes, output.lent());
+        let answer = program.clear(schema.bytes(), output.lent());
         (answer, output.front(length).to_vec())
     };
     let (one, two) = (clear(run.first), clear(run.second));
@@ -150,8 +150,9 @@ fn cleared(run: &Run, schema: &Packed) -> Result<Vec<u8>, String> {
 /// Writes the sheet with the cleared schema and rooms around the one that it needs;
 /// gives the number with room enough.
 fn moved(run: &mut Run, rng: &mut Rng, moving: &Moving) -> Result<u64, String> {
-    let Packed { coding, bytes } = &moving.cleared;
-    let (number, message) = reference::write(*coding, bytes, &moving.sheet, SIZE_LIMIT);
+    let cleared = &moving.cleared;
+    let (number, message) =
+        reference::write(cleared.coding(), cleared.bytes(), &moving.sheet, SIZE_LIMIT);
     let length = message.len();
     let mut rooms = vec![rng.below(200), 0];
     if number == 0 {
@@ -200,12 +201,11 @@ fn read_back(run: &mut Run, moving: &Moving, length: usize) -> Result<(), String
 /// The move is refused by 12 exactly where the stored schema's write was for an older
 /// reason; that write is now refused by 12 there and where a union is present in place.
 fn reasons(run: &mut Run, schema: &Schema, moving: &Moving, number: u64) -> Result<(), String> {
-    let Packed { coding, bytes } = moving.stored;
-    let sheet = &moving.sheet;
+    let (packed, sheet) = (moving.stored, &moving.sheet);
     let Some(value) = sheet::decode(schema, sheet) else {
         return Err(failed(moving, "the sheet is not lawful"));
     };
-    let (stored, _) = reference::write_stored(*coding, bytes, sheet, SIZE_LIMIT);
+    let (stored, _) = reference::write_stored(packed.coding(), packed.bytes(), sheet, SIZE_LIMIT);
     let held = has_union_in_place(schema, &value);
     run.counts.note(&format!(
         "moved {number}, {} a union in place",

@@ -40,13 +40,8 @@ pub fn on_round(run: &mut Run, seed: u64, round: u64) -> Result<(), String> {
 
 /// A message with budgets and rooms around those that it needs.
 fn on_subject(run: &mut Run, rng: &mut Rng, subject: &Subject) -> Result<(), String> {
-    let (verdict, sheet) = reference::read(
-        subject.schema.coding,
-        &subject.schema.bytes,
-        &subject.message,
-        AMPLE,
-        SIZE_LIMIT,
-    );
+    let (verdict, sheet) =
+        reference::read(subject.schema.lent(), &subject.message, AMPLE, SIZE_LIMIT);
     let (length, visits, content) = (sheet.len(), verdict.visits, verdict.content);
     let exact = Budget { visits, content };
     if verdict.number != 0 {

@@ -52,17 +52,18 @@ impl Judge for SecondCalls {
 }
 
 impl Calls for SecondCalls {
+    fn positions(&self, schema: &Packed, positions: &mut [u8]) -> [u64; 2] {
+        let (number, made) = reference::positions(schema.coding(), schema.bytes(), positions.len());
+        positions[..made.len()].copy_from_slice(&made);
+        [u64::from(number), made.len() as u64]
+    }
+
     fn field(&self, schema: &Packed, message: &[u8], path: &[u32]) -> [u64; 4] {
-        numbers(reference::field(
-            schema.coding,
-            &schema.bytes,
-            message,
-            path,
-        ))
+        numbers(reference::field(schema.lent(), message, path))
     }
 
     fn text(&self, schema: &Packed, message: &[u8], path: &[u32]) -> [u64; 3] {
-        match reference::text(schema.coding, &schema.bytes, message, path) {
+        match reference::text(schema.lent(), message, path) {
             Some((start, length)) => [1, start as u64, length as u64],
             None => [0; 3],
         }
@@ -76,16 +77,14 @@ impl Calls for SecondCalls {
         from: u64,
         cases: &mut [u64],
     ) -> u64 {
-        let mut reader = match ListReader::new(schema.coding, &schema.bytes, message, path) {
+        let mut reader = match ListReader::new(schema.lent(), message, path) {
             Ok(reader) => reader,
             Err(refusal) => {
                 store(cases, || refusal);
                 return 0;
             }
         };
-        let Answer::Object { length, .. } =
-            reference::field(schema.coding, &schema.bytes, message, path)
-        else {
+        let Answer::Object { length, .. } = reference::field(schema.lent(), message, path) else {
             unreachable!("a list reader starts only at a list");
         };
         reader.skip(from);
@@ -94,8 +93,7 @@ impl Calls for SecondCalls {
     }
 
     fn read(&self, schema: &Packed, message: &[u8], budget: Budget, sheet: &mut [u8]) -> Read {
-        let (verdict, read) =
-            reference::read(schema.coding, &schema.bytes, message, budget, sheet.len());
+        let (verdict, read) = reference::read(schema.lent(), message, budget, sheet.len());
         sheet[..read.len()].copy_from_slice(&read);
         let length = read.len() as u64;
         Read { verdict, length }
@@ -111,7 +109,7 @@ impl Writes for SecondCalls {
 
     fn write(&self, schema: &Packed, sheet: &[u8], message: &mut [u8]) -> [u64; 2] {
         let (number, written) =
-            reference::write(schema.coding, &schema.bytes, sheet, message.len());
+            reference::write(schema.coding(), schema.bytes(), sheet, message.len());
         message[..written.len()].copy_from_slice(&written);
         [u64::from(number), written.len() as u64]
     }

@@ -112,10 +112,7 @@ fn other_codings(coding: Coding, rng: &mut Rng, own: &Packed, out: &mut Vec<Subj
         direct: false,
     });
     if rng.one_in(8) {
-        let schema = Packed {
-            coding: subjects::no_coding(rng),
-            bytes: own.bytes.clone(),
-        };
+        let schema = own.under(subjects::no_coding(rng));
         out.push(Subject {
             sort: "under no coding",
             schema,
@@ -130,7 +127,7 @@ fn read_from_damaged(rng: &mut Rng, schema: &Schema, value: Value) -> Option<Vec
     let wild = message_gen::lay_out(schema, rng, value, None);
     let bytes = damage::message(schema.coding, rng, &wild);
     let packed = schema.pack();
-    let (verdict, sheet) = reference::read(packed.coding, &packed.bytes, &bytes, AMPLE, 1 << 16);
+    let (verdict, sheet) = reference::read(packed.lent(), &bytes, AMPLE, 1 << 16);
     (verdict.number == 0).then_some(sheet)
 }
 
@@ -138,7 +135,7 @@ fn read_from_damaged(rng: &mut Rng, schema: &Schema, value: Value) -> Option<Vec
 fn on_subject(run: &mut Run, rng: &mut Rng, subject: &Subject) -> Result<(), String> {
     let schema = &subject.schema;
     let (number, message) =
-        reference::write(schema.coding, &schema.bytes, &subject.sheet, SIZE_LIMIT);
+        reference::write(schema.coding(), schema.bytes(), &subject.sheet, SIZE_LIMIT);
     let name = format!("sheets {}, answer {number}", subject.sort);
     run.counts.note(&name);
     if subject.direct {
@@ -146,7 +143,8 @@ fn on_subject(run: &mut Run, rng: &mut Rng, subject: &Subject) -> Result<(), Str
         run.counts.note(&name);
     }
     if number == 12 {
-        let (before, _) = reference::write_stored(schema.coding, &schema.bytes, &subject.sheet, 0);
+        let (before, _) =
+            reference::write_stored(schema.coding(), schema.bytes(), &subject.sheet, 0);
         run.counts.note(match before {
             12 => "sheets refused for an older reason",
             _ => "sheets refused for a union in place alone",

@@ -50,7 +50,7 @@ fn relations(context: &mut Context, older: &Schema) -> Checked {
         ("a damaged newer schema", damaged, by_damage),
     ];
     for (law, new, expected) in cases {
-        let data: Data = &[("older", &old.bytes), ("newer", &new.bytes)];
+        let data: Data = &[("older", old.bytes()), ("newer", new.bytes())];
         same(law, &expected, &context.relations.appends(&old, &new), data)?;
         context.counts.note(if expected {
             "schemas that append"
@@ -60,7 +60,7 @@ fn relations(context: &mut Context, older: &Schema) -> Checked {
     }
     let back = append_gen::appends(&newer, older);
     let new = newer.pack();
-    let data: Data = &[("older", &new.bytes), ("newer", &old.bytes)];
+    let data: Data = &[("older", new.bytes()), ("newer", old.bytes())];
     let given = context.relations.appends(&new, &old);
     same("the other way round", &back, &given, data)
 }
@@ -88,8 +88,8 @@ fn forward_one(
     value: Option<&Value>,
 ) -> Checked {
     let data: Data = &[
-        ("older", &pair.old.bytes),
-        ("newer", &pair.new.bytes),
+        ("older", pair.old.bytes()),
+        ("newer", pair.new.bytes()),
         ("m", bytes),
     ];
     let (verdict, new_sheet) = context.read(&pair.new, bytes, budget, SIZE_LIMIT);
@@ -127,8 +127,8 @@ fn cheaper(
     (newer, visits): (Verdict, u32),
 ) -> Checked {
     let data: Data = &[
-        ("older", &pair.old.bytes),
-        ("newer", &pair.new.bytes),
+        ("older", pair.old.bytes()),
+        ("newer", pair.new.bytes()),
         ("m", bytes),
     ];
     let spent = |verdict: Verdict| Budget {
@@ -152,8 +152,8 @@ fn backward(context: &mut Context, pair: &Pair) -> Checked {
     let old_sheet = sheet::encode(&pair.older, &value);
     let (number, message) = context.write(&pair.old, &old_sheet, SIZE_LIMIT);
     let data: Data = &[
-        ("older", &pair.old.bytes),
-        ("newer", &pair.new.bytes),
+        ("older", pair.old.bytes()),
+        ("newer", pair.new.bytes()),
         ("sheet", &old_sheet),
         ("message", &message),
     ];

@@ -33,7 +33,7 @@ fn one(
     bytes: &[u8],
     value: &Value,
 ) -> Checked {
-    let data: Data = &[("schema", &packed.bytes), ("message", bytes)];
+    let data: Data = &[("schema", packed.bytes()), ("message", bytes)];
     let verdict = context.judge(packed, bytes, AMPLE);
     let (again, given) = context.read(packed, bytes, AMPLE, SIZE_LIMIT);
     same("reading gives the verdict", &verdict, &again, data)?;
@@ -70,7 +70,7 @@ fn accepted_one(
     given: &[u8],
     visits: u32,
 ) -> Checked {
-    let data: Data = &[("schema", &packed.bytes), ("message", bytes)];
+    let data: Data = &[("schema", packed.bytes()), ("message", bytes)];
     context.counts.note("damaged messages accepted");
     let Some(value) = sheet::decode(schema, given) else {
         return fail("the sheet read is lawful", &hex(given), data);
@@ -113,7 +113,7 @@ fn fields_of_refused(
     verdict: Verdict,
     value: &Value,
 ) -> Checked {
-    let data: Data = &[("schema", &packed.bytes), ("message", bytes)];
+    let data: Data = &[("schema", packed.bytes()), ("message", bytes)];
     for _ in 0..2 {
         let path = paths::random_path(schema, &mut context.rng, value);
         let answer = context.field(packed, bytes, &path);

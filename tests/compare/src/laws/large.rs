@@ -46,7 +46,7 @@ fn text_at_the_limit(context: &mut Context) -> Checked {
         let value = Value::Table(vec![Value::Blob(text)]);
         let bytes = sheet::encode(&schema, &value);
         let (number, message) = context.write(&packed, &bytes, SIZE_LIMIT + 100);
-        let data: Data = &[("schema", &packed.bytes)];
+        let data: Data = &[("schema", packed.bytes())];
         not_written(context, &schema, value.clone())?;
         if over == 1 {
             same(
@@ -83,7 +83,7 @@ fn text_at_the_limit(context: &mut Context) -> Checked {
 /// The same with a last byte that is no text's: 12, before 13 and 14.
 fn not_written(context: &mut Context, schema: &Schema, mut value: Value) -> Checked {
     let packed = schema.pack();
-    let data: Data = &[("schema", &packed.bytes)];
+    let data: Data = &[("schema", packed.bytes())];
     if let Value::Table(members) = &mut value {
         if let Some(Value::Blob(text)) = members.first_mut() {
             *text.last_mut().expect("a long text") = 0xC2;
@@ -113,7 +113,7 @@ fn absent_elements(context: &mut Context) -> Checked {
         schema.unions = vec![vec![Record::plain(TEXT, 0)]];
         let packed = schema.pack();
         let fitting = (SIZE_LIMIT - before_content(context.coding)) / schema.value_size(&element);
-        let data: Data = &[("schema", &packed.bytes)];
+        let data: Data = &[("schema", packed.bytes())];
         let value = Value::Table(vec![Value::List(vec![Value::Absent; fitting + 1])]);
         let bytes = sheet::encode(&schema, &value);
         for room in 0..51 {
@@ -135,7 +135,7 @@ fn shared_text(context: &mut Context) -> Checked {
     schema.tables[0].members.push(Record::plain(BYTES, 0));
     schema.lists = vec![Record::plain(TEXT, 0)];
     let packed = schema.pack();
-    let data: Data = &[("schema", &packed.bytes)];
+    let data: Data = &[("schema", packed.bytes())];
     let (text, count) = (65_536, 255);
     // Mark and length, 34 bits, for the list, each text and the blob.
     let bits = 34 * (2 + count) + 8 * text * count;
@@ -185,7 +185,7 @@ fn sizes(context: &mut Context) -> Checked {
     let value = Value::Table(vec![Value::Blob(blob)]);
     let mut message = canonical::message(&schema, &value);
     message.resize(SIZE_LIMIT, 0xAA);
-    let data: Data = &[("schema", &packed.bytes)];
+    let data: Data = &[("schema", packed.bytes())];
     let verdict = context.judge(&packed, &message, AMPLE);
     let expected = accepted(2, context.coding.offset() as u64 + 100);
     same("a message of the size", &expected, &verdict, data)?;
@@ -220,7 +220,7 @@ fn longest_path(context: &mut Context) -> Checked {
     }
     let packed = schema.pack();
     let message = canonical::message(&schema, &value);
-    let data: Data = &[("schema", &packed.bytes), ("message", &message)];
+    let data: Data = &[("schema", packed.bytes()), ("message", &message)];
     let mut path = vec![0; 31];
     path.push(1);
     path.resize(96, 0);
@@ -246,7 +246,7 @@ fn doubling(context: &mut Context) -> Checked {
     let message = doubling::message(&schema, levels);
     let spent = doubling::spent(context.coding, levels);
     let Budget { visits, content } = spent;
-    let data: Data = &[("schema", &packed.bytes), ("message", &message)];
+    let data: Data = &[("schema", packed.bytes()), ("message", &message)];
     for budget in [spent, Budget::LARGEST] {
         let verdict = context.judge(&packed, &message, budget);
         let expected = accepted(visits, content);
@@ -271,7 +271,7 @@ fn sheet_at_the_limit(context: &mut Context) -> Checked {
     schema.tables[0].members.push(Record::plain(BYTES, 0));
     schema.lists = vec![Record::plain(F64, 0)];
     let packed = schema.pack();
-    let data: Data = &[("schema", &packed.bytes)];
+    let data: Data = &[("schema", packed.bytes())];
     let count = (8 * SIZE_LIMIT - 100) / 66;
     let blob = (8 * SIZE_LIMIT - 68 - 66 * count) / 8;
     for (blob, number) in [(blob, 0), (blob + 1, 11)] {

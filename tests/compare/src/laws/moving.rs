@@ -32,7 +32,7 @@ pub fn check(context: &mut Context) -> Checked {
     let exact = wild.spent();
     let expected = sheet::encode(&schema, &wild.value);
     let read = context.read(&packed, &wild.bytes, exact, expected.len());
-    let data: Data = &[("schema", &packed.bytes), ("message", &wild.bytes)];
+    let data: Data = &[("schema", packed.bytes()), ("message", &wild.bytes)];
     same_bytes("the sheet to move over", &expected, &read.1, data)?;
     moved(context, &schema, &wild.value, &read.1)
 }
@@ -43,18 +43,18 @@ fn clearing(context: &mut Context, packed: &Packed, schema: &Schema) -> Checked 
     let damaged = schema_faults::damaged(&mut context.rng, packed);
     let parsed = schema_rules::parse(&damaged);
     for (packed, schema) in [(packed, Some(schema)), (&damaged, parsed.as_ref())] {
-        let data: Data = &[("schema", &packed.bytes)];
-        let length = packed.bytes.len();
-        let cleared = schema.map(|schema| schema.cleared().pack().bytes);
+        let data: Data = &[("schema", packed.bytes())];
+        let length = packed.bytes().len();
+        let cleared = schema.map(|schema| schema.cleared().pack().bytes().to_vec());
         let with_room = cleared.map_or((1, Vec::new()), |cleared| (0, cleared));
         let without = (if with_room.0 == 0 { 14 } else { 1 }, Vec::new());
         for room in [length, length + 9] {
-            let given = context.program.clear_unions(&packed.bytes, room);
+            let given = context.program.clear_unions(packed.bytes(), room);
             context.counts.answer(given.0);
             same("clearing a schema", &with_room, &given, data)?;
         }
         // Nothing is one too few where nothing is lawful.
-        let given = (context.program).clear_unions(&packed.bytes, length.saturating_sub(1));
+        let given = (context.program).clear_unions(packed.bytes(), length.saturating_sub(1));
         context.counts.answer(given.0);
         same("clearing without room", &without, &given, data)?;
     }
@@ -66,7 +66,7 @@ fn clearing(context: &mut Context, packed: &Packed, schema: &Schema) -> Checked 
 pub fn moved(context: &mut Context, schema: &Schema, value: &Value, bytes: &[u8]) -> Checked {
     let cleared = schema.cleared();
     let packed = cleared.pack();
-    let data: Data = &[("cleared", &packed.bytes), ("sheet", bytes)];
+    let data: Data = &[("cleared", packed.bytes()), ("sheet", bytes)];
     let encoded = sheet::encode(&cleared, value);
     same_bytes("the sheet by the cleared schema", bytes, &encoded, data)?;
     if !value::was_writable(schema, value) {

@@ -20,7 +20,7 @@ pub fn check(context: &mut Context) -> Checked {
         context.counts.note("writable values of depth 32");
     }
     let data: Data = &[
-        ("schema", &packed.bytes),
+        ("schema", packed.bytes()),
         ("sheet", &sheet),
         ("message", &message),
     ];

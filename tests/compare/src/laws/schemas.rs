@@ -41,7 +41,7 @@ pub fn check(context: &mut Context) -> Checked {
 
 /// Every function refuses an unlawful schema first.
 fn judged(context: &mut Context, packed: &Packed, lawful: bool) -> Checked {
-    let data: Data = &[("schema", &packed.bytes)];
+    let data: Data = &[("schema", packed.bytes())];
     let own = schema_rules::parse(packed).is_some();
     same("own rules", &lawful, &own, data)?;
     same("lawful", &lawful, &context.relations.lawful(packed), data)?;

@@ -37,7 +37,7 @@ pub fn check(context: &mut Context) -> Checked {
 
 /// Writes any bytes as a sheet; what must come of it is known.
 pub fn written(context: &mut Context, schema: &Schema, packed: &Packed, bytes: &[u8]) -> Checked {
-    let data: Data = &[("schema", &packed.bytes), ("sheet", bytes)];
+    let data: Data = &[("schema", packed.bytes()), ("sheet", bytes)];
     let Some(value) = sheet::decode(schema, bytes) else {
         return refused(context, packed, bytes, 11, "a sheet that is not lawful");
     };
@@ -62,7 +62,7 @@ fn refused(
     number: u32,
     law: &str,
 ) -> Checked {
-    let data: Data = &[("schema", &packed.bytes), ("sheet", bytes)];
+    let data: Data = &[("schema", packed.bytes()), ("sheet", bytes)];
     for room in [SIZE_LIMIT, 0] {
         let given = context.write(packed, bytes, room);
         same(law, &(number, Vec::new()), &given, data)?;
@@ -154,7 +154,7 @@ fn unwritable(context: &mut Context, schema: &Schema, packed: &Packed, value: &V
         context.counts.note(&sheet_faults::no_text_from(bit));
     }
     let bytes = encoded.bytes;
-    let data: Data = &[("schema", &packed.bytes), ("sheet", &bytes)];
+    let data: Data = &[("schema", packed.bytes()), ("sheet", &bytes)];
     same(
         "unwritable by own rules",
         &false,

@@ -27,7 +27,7 @@ pub fn check(context: &mut Context) -> Checked {
 
 /// Every function refuses the message with this number and nothing else.
 pub fn refused(context: &mut Context, packed: &Packed, message: &[u8], number: u32) -> Checked {
-    let data: Data = &[("schema", &packed.bytes), ("message", message)];
+    let data: Data = &[("schema", packed.bytes()), ("message", message)];
     let verdict = refused_at_start(number);
     let nothing = Budget {
         visits: 0,

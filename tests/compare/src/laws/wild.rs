@@ -24,7 +24,7 @@ pub fn check(context: &mut Context) -> Checked {
         context.counts.note(&format!("no text: {held:?}"));
     }
     let packed = schema.pack();
-    let data: Data = &[("schema", &packed.bytes), ("message", &wild.bytes)];
+    let data: Data = &[("schema", packed.bytes()), ("message", &wild.bytes)];
     verdicts(context, &packed, &wild, data)?;
     if wild.number == 0 {
         sheet_of(context, &schema, &packed, &wild, data)?;

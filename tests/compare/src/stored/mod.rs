@@ -72,11 +72,11 @@ pub fn under(coding: Coding) -> Vec<Case> {
 pub fn packed(cases: &[Case]) -> Vec<u8> {
     let mut out = Vec::new();
     for case in cases {
-        let lengths = [case.schema.bytes.len() as u32, case.message.len() as u32];
-        for number in [case.schema.coding, lengths[0], lengths[1], case.budget] {
+        let lengths = [case.schema.bytes().len() as u32, case.message.len() as u32];
+        for number in [case.schema.coding(), lengths[0], lengths[1], case.budget] {
             out.extend_from_slice(&number.to_le_bytes());
         }
-        out.extend_from_slice(&case.schema.bytes);
+        out.extend_from_slice(case.schema.bytes());
         out.extend_from_slice(&case.message);
     }
     out
@@ -97,7 +97,7 @@ pub fn answers(cases: &[Case]) -> String {
 pub fn names(cases: &[Case]) -> String {
     let mut out = String::new();
     for (i, case) in cases.iter().enumerate() {
-        let (number, coding) = (i + 1, case.schema.coding);
+        let (number, coding) = (i + 1, case.schema.coding());
         let _ = writeln!(out, "{number}: {coding}: {}: {}", case.group, case.name);
     }
     out

@@ -26,14 +26,15 @@ pub fn add(coding: Coding, cases: &mut Vec<Case>) {
         // The shortest of several that break the rule.
         let rng = |k| Rng::for_case(7, 100 * i as u64 + k);
         let made = (0..40).map(|k| schema_faults::breaking(coding, &mut rng(k), *rule));
-        let shortest = made.min_by_key(|schema| schema.bytes.len());
+        let shortest = made.min_by_key(|schema| schema.bytes().len());
         push(format!("{rule:?}"), shortest.expect("a schema"));
     }
     let small = schema_with(coding, vec![Record::plain(STRUCT, 1)]).pack();
-    for size in 0..=small.bytes.len() + 1 {
-        let mut schema = small.clone();
-        schema.bytes.resize(size, 0);
-        push(format!("{size} of {} bytes", small.bytes.len()), schema);
+    for size in 0..=small.bytes().len() + 1 {
+        let mut bytes = small.bytes().to_vec();
+        bytes.resize(size, 0);
+        let schema = small.with(bytes);
+        push(format!("{size} of {} bytes", small.bytes().len()), schema);
     }
     let plain = schema_with(coding, Vec::new());
     records(&plain, &mut push);

@@ -10,7 +10,7 @@ use compare::value::texts_are_text;
 
 /// The length of the text by offset at this place, if its bytes are no text.
 pub fn no_text_at(schema: &Packed, message: &[u8], place: u64) -> Option<u64> {
-    let coding = Coding::of(schema.coding)?;
+    let coding = Coding::of(schema.coding())?;
     let object = message.get(place as usize..)?;
     let (magic, rest) = object.split_at_checked(4)?;
     let (length, content) = rest.split_at_checked(coding.offset())?;

@@ -3,6 +3,8 @@
 
 #![allow(dead_code)]
 
+pub mod tabled;
+
 use reference::{Answer, Budget, Verdict, NO_MEMBER};
 
 pub const BOOL: u16 = 0;
@@ -238,7 +240,7 @@ impl Sheet {
 /// Judges with the largest content allowance. Its content is left out of the
 /// answer, but tried: just so much is enough, and with less the answer is 17.
 pub fn judge(coding: u32, schema: &[u8], message: &[u8], visits: u32) -> Verdict {
-    let judged = |content| reference::judge(coding, schema, message, Budget { visits, content });
+    let judged = |content| tabled::judge(coding, schema, message, Budget { visits, content });
     without_content(judged)
 }
 
@@ -253,7 +255,7 @@ pub fn read(
     let budget = |content| Budget { visits, content };
     let mut sheet = Vec::new();
     let verdict = without_content(|content| {
-        let (verdict, read) = reference::read(coding, schema, message, budget(content), room);
+        let (verdict, read) = tabled::read(coding, schema, message, budget(content), room);
         if content == u64::MAX {
             sheet = read;
         }
