@@ -154,6 +154,13 @@ uint32_t scalgo_judge(uint32_t coding, const uint8_t *schema, size_t schema_len,
                       const uint8_t *message, size_t message_len,
                       uint32_t visits, uint64_t content, scalgo_verdict *verdict);
 
+/* The same with little stack, for every message the same answer and verdict: it judges with a list of
+ * pending work in place of nested calls, and touches less than 4 KiB of stack at any depth. */
+uint32_t scalgo_judge_iterative(uint32_t coding, const uint8_t *schema, size_t schema_len,
+                                const uint8_t *positions, size_t positions_len,
+                                const uint8_t *message, size_t message_len,
+                                uint32_t visits, uint64_t content, scalgo_verdict *verdict);
+
 /* Reads one field and answers its case.
  *
  * positions: as of scalgo_judge.

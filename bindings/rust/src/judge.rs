@@ -16,6 +16,19 @@ extern "C" {
         content: u64,
         verdict: *mut Stored,
     ) -> u32;
+
+    fn scalgo_judge_iterative(
+        coding: u32,
+        schema: *const u8,
+        schema_len: usize,
+        positions: *const u8,
+        positions_len: usize,
+        message: *const u8,
+        message_len: usize,
+        visits: u32,
+        content: u64,
+        verdict: *mut Stored,
+    ) -> u32;
 }
 
 impl Schema {
@@ -43,11 +56,34 @@ impl Schema {
     /// # Ok::<(), scalgo::NotLawful>(())
     /// ```
     pub fn judge(&self, message: &[u8], budget: Budget) -> Verdict {
+        self.judge_by(scalgo_judge, message, budget)
+    }
+
+    /// The same verdict with little stack: a message is judged with a list of pending work in place of
+    /// nested calls, and less than 4 KiB of stack are touched at any depth.
+    ///
+    /// ```
+    /// # let schema = b"\x00\x00\x00\x01\x00\x4C\x49\x43\x45\x02\x10\x00\x68\x00";
+    /// # let message = b"\xB3\xC4\xC0\xB5\x0A\x00\x00\x00\x00\x00\
+    /// #     \x45\x43\x49\x4C\x08\x00\x00\x00\x00\x00\x03\x00\x1C\x00\x00\x00\x00\x00\
+    /// #     \xF5\xC8\x12\xD8\x02\x00\x00\x00\x00\x00ab\x00";
+    /// use scalgo::{Budget, Coding, Schema};
+    ///
+    /// let schema = Schema::new(Coding::Bits48, schema)?;
+    /// let budget = Budget { visits: 2, content: 10 };
+    /// assert_eq!(schema.judge_iterative(message, budget), schema.judge(message, budget));
+    /// # Ok::<(), scalgo::NotLawful>(())
+    /// ```
+    pub fn judge_iterative(&self, message: &[u8], budget: Budget) -> Verdict {
+        self.judge_by(scalgo_judge_iterative, message, budget)
+    }
+
+    fn judge_by(&self, engine: Engine, message: &[u8], budget: Budget) -> Verdict {
         let mut stored = Stored::default();
         // SAFETY: each slice is given as its pointer, which is not null, and its length; no one
         // writes to any during the call; the verdict is this function's own; nothing is kept.
         unsafe {
-            scalgo_judge(
+            engine(
                 self.coding().number(),
                 self.bytes().as_ptr(),
                 self.bytes().len(),
@@ -63,3 +99,17 @@ impl Schema {
         stored.into()
     }
 }
+
+/// One of the two engines, as C has it.
+type Engine = unsafe extern "C" fn(
+    u32,
+    *const u8,
+    usize,
+    *const u8,
+    usize,
+    *const u8,
+    usize,
+    u32,
+    u64,
+    *mut Stored,
+) -> u32;

@@ -1,3 +1,2 @@
 pub mod NumberCases
-pub mod CountCases
 pub mod VerdictCases

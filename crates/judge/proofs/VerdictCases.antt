@@ -28,7 +28,7 @@ use Rattle.outcome.specs.declared.Outcome.{Outcome}
 use Rattle.outcome.specs.Answers.{walkedOf, leftOf}
 use Rattle.outcome.specs.Left as Left
 use Rattle.judge.proofs.NumberCases.{NumberSmall, walk-small}
-use Rattle.judge.proofs.CountCases.{Within, visit-spent, visit-left}
+use Rattle.outcome.proofs.CountCases.{Within, visit-spent, visit-left}
 
 -- ---- the walk from the root, where nothing is spent
 module _ (o : ℕ) (b m : List ℕ) (v c : ℕ) (ob : Object) (p : Place) (eo : ob ≡ O.Table (P.parse b .root)) (ep : p ≡ W.rootPlace o m) (w : Outcome)

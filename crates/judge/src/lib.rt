@@ -13,7 +13,7 @@ ghost use Rattle.outcome.specs.Left as Left;
 ghost use Rattle.wire.specs.Sizes.{WithinSize, Width, HasStart};
 
 // The verdict of a walk that has ended, by what it was given and what is left of that.
-fn verdict_of(w: Outcome, visits: u32, content: u64) -> Verdict
+pub fn verdict_of(w: Outcome, visits: u32, content: u64) -> Verdict
     requires { ⌜ (w .code ≤ 256) × (w .visits ≤ visits) × (w .content ≤ content) ⌝ }
     ensures { λ r. ⌜ r ≡ W.verdictOf (Left.spentOf (W.allowing visits content) (As.walkedOf w)) ⌝ }
 {
@@ -36,7 +36,7 @@ fn verdict_of(w: Outcome, visits: u32, content: u64) -> Verdict
 }
 
 // A refusal before the walk.
-fn early(n: u8) -> Verdict
+pub fn early(n: u8) -> Verdict
     ensures { λ r. ⌜ r ≡ W.early n ⌝ }
 {
     Verdict {

@@ -44,7 +44,7 @@ ended-bytes n w c e = record { end = omega (arith, e .end); byte = by (ltb (c .b
     by false h = omega (arith, e .end)
 
 module _ (o : ℕ) (S : Schema) (n : ℕ) (c : Cursor) (r : Member) (e : Ended n c) where
-  ended-member : Ended n (L.afterMember o S r c)
+  pub ended-member : Ended n (L.afterMember o S r c)
   unfolding L.afterMember L.afterFlag L.afterValue
   ended-member =
       let f : Ended n (pick (L.hasFlag r) (L.afterBit c) c) = pick-holds (Ended n) (L.hasFlag r) (L.afterBit c) c (λ _. ended-bit n c e) (λ _. e) in
@@ -55,7 +55,7 @@ module _ (o : ℕ) (S : Schema) (n : ℕ) (c : Cursor) (r : Member) (e : Ended n
   unfolding L.memberSlot L.afterFlag L.slotOf L.bitSlot
   starts-past q = rw q (pick-holds (λ (s : Slot). n ≤ s .at) (L.isBool (r .kind)) _ _ (λ _. e .byte) (λ _. e .end))
 
-  absent : (m : List ℕ) (start : ℕ) → T.memberStep o S m start n c r ≡ St.Absent
+  pub absent : (m : List ℕ) (start : ℕ) → T.memberStep o S m start n c r ≡ St.Absent
   unfolding T.memberStep T.placedStep L.placementOf L.bitSlot T.structTested T.flagged T.inside
   absent m start = by (L.hasFlag r) (L.memberSlot o S r c) _ starts-past
     where

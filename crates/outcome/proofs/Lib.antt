@@ -1,2 +1,3 @@
 pub mod AnswerCases
 pub mod ArrivalCases
+pub mod CountCases

@@ -106,6 +106,30 @@ pub fn judged(schema: &[u8], rows: &[u8], message: &[u8], budget: Budget, o: usi
     judge::judge(schema, rows, message, budget, o)
 }
 
+// The verdicts of both engines.
+pub struct Engines {
+    pub first: Verdict,
+    pub second: Verdict,
+}
+
+// Judging a message with nested calls and with a list of pending work.
+pub fn judged_by_engines(
+    schema: &[u8],
+    rows: &[u8],
+    message: &[u8],
+    budget: Budget,
+    o: usize,
+) -> Engines
+    // "For all inputs it gives the same number, place, member, visits and content as the first." (02, K11)
+    ensures same { λ r. ⌜ r .second ≡ r .first ⌝ }
+    // and both are the definition's
+    ensures whole { λ r. ⌜ r .first ≡ W.verdict o (lent o schema rows) (given message) budget ⌝ }
+{
+    let first = judge::judge(schema, rows, message, budget, o);
+    let second = judge_iterative::judge(schema, rows, message, budget, o);
+    Engines { first, second }
+}
+
 // Reading a message to a sheet.
 pub fn read(
     schema: &[u8],

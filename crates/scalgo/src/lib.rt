@@ -65,6 +65,26 @@ pub extern "C" fn scalgo_judge(
     v.number as u32
 }
 
+// The same by the second engine, which needs little stack: no function that it calls calls itself.
+#[no_mangle]
+pub extern "C" fn scalgo_judge_iterative(
+    coding: u32,
+    schema: &[u8],
+    positions: &[u8],
+    message: &[u8],
+    visits: u32,
+    content: u64,
+    verdict: &mut [u64; 5],
+) -> u32
+    ensures { λ r. ⌜ r ≡ W.verdict (B.widthOf coding) (lent coding schema positions) (now (message .entry)) (W.allowing visits content) .number ⌝ }
+    ensures { λ _. ⌜ now (verdict .exit) ≡ verdictNumbers (W.verdict (B.widthOf coding) (lent coding schema positions) (now (message .entry)) (W.allowing visits content)) ⌝ }
+{
+    let o = wire::width_of(coding);
+    let v = judge_iterative::judge(schema, positions, message, Budget { visits, content }, o);
+    store(v, verdict);
+    v.number as u32
+}
+
 // One field's answer at a path: answers its case, and stores the case's three numbers.
 #[no_mangle]
 pub extern "C" fn scalgo_field(

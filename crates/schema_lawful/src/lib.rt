@@ -138,7 +138,7 @@ fn parts_ok(b: &[u8], dir: &[u16], part: Part) -> bool
 }
 
 // Whether all lists, unions, tables and ids are right.
-fn rules(b: &[u8], dir: &[u16]) -> bool
+pub fn rules(b: &[u8], dir: &[u16]) -> bool
     requires { ⌜ Directory (now b) (now dir) ⌝ }
     ensures { λ r. ⌜ r ≡ Pa.restLawful (now (b .entry)) ⌝ }
 {
@@ -189,7 +189,7 @@ fn well_formed(b: &[u8], dir: &mut [u16]) -> bool
 }
 
 // Whether the coding of width o has all of the schema. There is no coding of another width than the two.
-fn coding_has(b: &[u8], dir: &[u16], o: usize) -> bool
+pub fn coding_has(b: &[u8], dir: &[u16], o: usize) -> bool
     requires { ⌜ Accepted (now b) (now dir) ⌝ }
     ensures { λ r. ⌜ Judged o (now (b .entry)) (now (dir .entry)) r ⌝ }
 {

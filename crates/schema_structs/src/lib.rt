@@ -55,7 +55,7 @@ fn struct_size(b: &[u8], dir: &[u16], known: usize, s: usize) -> usize
 
 // ---- the rules of the structs, whose sizes are stored on the way
 // Whether the members of struct i are right.
-fn fields_ok(b: &[u8], dir: &[u16], i: usize) -> bool
+pub fn fields_ok(b: &[u8], dir: &[u16], i: usize) -> bool
     requires { ⌜ (Directory (now b) (now dir)) × (i < P.structCount (now b)) ⌝ }
     ensures { λ r. ⌜ r ≡ L.recordsOk (now (b .entry)) (Role.InStruct i) 0 (P.structPlace (now (b .entry)) i) ⌝ }
 {

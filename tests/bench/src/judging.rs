@@ -1,13 +1,14 @@
 //! The table of judging: the library's times beside those of the second and the plain program.
 
 use crate::cases::{self, Case, CASES};
-use crate::programs::{decoded, fault, ours, plain_decoded, plain_whole, second};
+use crate::programs::{decoded, fault, iterative, ours, plain_decoded, plain_whole, second};
 use crate::timing::{self, Plan, Times};
 use std::hint::black_box;
 use std::time::Instant;
 
 const LEGEND: &str = "\
 Judging: nanoseconds of a call, the best of each program, and ours by each of the others'.
+  iter:   the library's second engine, by the first.
   second: the second program.
   plain:  the plain Rust program, its schema decoded once beforehand ('-' where it is not lawful).
   whole:  the plain Rust program's whole call, which decodes the schema each time, as ours does.";
@@ -15,14 +16,15 @@ Judging: nanoseconds of a call, the best of each program, and ours by each of th
 fn print_head() {
     println!("{LEGEND}");
     println!(
-        "{:>104} {:>15} {:>15} {:>7} {:>17}",
+        "{:>112} {:>15} {:>15} {:>7} {:>17}",
         "", "ours by second", "by plain", "whole", "ns/object"
     );
     println!(
-        "{:<50} {:>9} {:>10} {:>10} {:>10} {:>10} {:>7} {:>7} {:>7} {:>7} {:>7} {:>8} {:>8}",
+        "{:<50} {:>9} {:>10} {:>7} {:>10} {:>10} {:>10} {:>7} {:>7} {:>7} {:>7} {:>7} {:>8} {:>8}",
         "case",
         "visits",
         "ours",
+        "iter",
         "second",
         "plain",
         "whole",
@@ -56,10 +58,11 @@ pub fn times(plan: &Plan) -> bool {
 fn time(plan: &Plan, case: &Case) {
     let schema = decoded(case);
     let by_decoded = |case| schema.as_ref().map(|schema| plain_decoded(schema, case));
-    let [ours, second, plain, whole] = timing::in_turn(
+    let [ours, little, second, plain, whole] = timing::in_turn(
         plan,
         [
             &|| _ = black_box(ours(black_box(case))),
+            &|| _ = black_box(iterative(black_box(case))),
             &|| _ = black_box(second(black_box(case))),
             &|| _ = black_box(by_decoded(black_box(case))),
             &|| _ = black_box(plain_whole(black_box(case))),
@@ -67,10 +70,11 @@ fn time(plan: &Plan, case: &Case) {
     );
     let plain = schema.as_ref().map(|_| plain);
     println!(
-        "{:<50} {:>9} {:>10.0} {:>10.0} {:>10} {:>10.0} {} {} {} {}",
+        "{:<50} {:>9} {:>10.0} {} {:>10.0} {:>10} {:>10.0} {} {} {} {}",
         case.name,
         case.expected.visits,
         ours.best,
+        ratio(little.best / ours.best),
         second.best,
         plain
             .as_ref()

@@ -18,7 +18,7 @@ mod texts;
 mod timing;
 
 use cases::{Case, CASES};
-use programs::{fault, ours, second};
+use programs::{fault, iterative, ours, second};
 use std::hint::black_box;
 use std::process::ExitCode;
 use std::time::{Duration, Instant};
@@ -75,13 +75,19 @@ fn time_tasks(plan: &Plan) -> bool {
     sound
 }
 
-/// The stack of either program, judging and reading to a sheet.
-fn stacks_of(case: &Case) -> [usize; 4] {
+/// The most stack that the second engine may touch.
+const LITTLE: usize = 4096;
+
+/// The stack of either program, judging and reading to a sheet; behind ours that of the second engine.
+fn stacks_of(case: &Case) -> [usize; 5] {
     const ROOM: usize = 1 << 16;
     let message = &case.message;
     [
         stack::touched(&|| {
             black_box(ours(case));
+        }),
+        stack::touched(&|| {
+            black_box(iterative(case));
         }),
         stack::touched(&|| {
             black_box(second(case));
@@ -101,8 +107,8 @@ fn stacks_of(case: &Case) -> [usize; 4] {
 fn stacks() -> bool {
     println!("Bytes of stack touched by a message of 32 objects, each in the one before:");
     println!(
-        "{:<50} {:>12} {:>12} {:>12} {:>12}",
-        "objects", "ours", "reference", "ours to sheet", "reference",
+        "{:<50} {:>12} {:>12} {:>12} {:>12} {:>12}",
+        "objects", "ours", "iterative", "reference", "ours to sheet", "reference",
     );
     let mut sound = true;
     for case in depth::cases() {
@@ -111,9 +117,24 @@ fn stacks() -> bool {
             sound = false;
             continue;
         }
-        let [ours, second, sheet, second_sheet] = stacks_of(&case);
+        let [ours, little, second, sheet, second_sheet] = stacks_of(&case);
+        sound &= little <= LITTLE;
         let name = case.name;
-        println!("{name:<50} {ours:>12} {second:>12} {sheet:>12} {second_sheet:>12}");
+        println!("{name:<50} {ours:>12} {little:>12} {second:>12} {sheet:>12} {second_sheet:>12}");
+    }
+    sound
+}
+
+/// The stack of both engines for every case that is timed; false where the second touches too much.
+fn little_stacks() -> bool {
+    println!("Bytes of stack touched by judging:");
+    println!("{:<50} {:>12} {:>12}", "case", "ours", "iterative");
+    let mut sound = true;
+    for case in CASES.iter().map(|build| build()) {
+        let first = stack::touched(&|| _ = black_box(ours(&case)));
+        let little = stack::touched(&|| _ = black_box(iterative(&case)));
+        sound &= little <= LITTLE;
+        println!("{:<50} {first:>12} {little:>12}", case.name);
     }
     sound
 }
@@ -176,7 +197,7 @@ fn all(plan: &Plan) -> bool {
     println!();
     let read = texts::times(plan);
     println!();
-    let measured = stacks();
+    let measured = stacks() & little_stacks();
     println!();
     let worked = time_tasks(plan);
     timed && read && measured && worked

@@ -2,6 +2,7 @@
 
 use crate::cases::Case;
 use reference::{Verdict, NO_MEMBER};
+use scalgo::{Budget, Schema};
 
 extern "C" {
     fn scalgo_positions(
@@ -32,10 +33,20 @@ pub fn positions(coding: u32, schema: &[u8], table: &mut [u8]) -> [u64; 2] {
     [u64::from(number), length]
 }
 
-/// The library. Where the schema is not lawful no table can be made, and what is timed is that.
+/// The library.
 pub fn ours(case: &Case) -> Verdict {
+    by_engine(case, Schema::judge)
+}
+
+/// The library's second engine.
+pub fn iterative(case: &Case) -> Verdict {
+    by_engine(case, Schema::judge_iterative)
+}
+
+/// One of the library's engines. Where the schema is not lawful no table can be made, and what is timed is that.
+fn by_engine(case: &Case, judge: fn(&Schema, &[u8], Budget) -> scalgo::Verdict) -> Verdict {
     of_wrapper(match case.lawful() {
-        Some(schema) => schema.judge(&case.message, case.budget),
+        Some(schema) => judge(schema, &case.message, case.budget),
         None => {
             let made = positions(case.coding.number(), &case.schema, &mut []);
             assert_eq!(made, [1, 0]);
@@ -107,7 +118,7 @@ pub fn plain_budget(budget: scalgo::Budget) -> plain::Budget {
 pub fn fault(case: &Case) -> Option<String> {
     let (ours, second, whole) = (ours(case), second(case), plain_whole(case));
     let plain = decoded(case).map_or(whole, |schema| plain_decoded(&schema, case));
-    let same = ours == second && ours == plain && ours == whole;
+    let same = ours == iterative(case) && ours == second && ours == plain && ours == whole;
     if same && case.expected.is(&ours) {
         return None;
     }

@@ -29,6 +29,19 @@ extern "C" {
         verdict: *mut Stored,
     ) -> u32;
 
+    fn scalgo_judge_iterative(
+        coding: u32,
+        schema: *const u8,
+        schema_len: usize,
+        positions: *const u8,
+        positions_len: usize,
+        message: *const u8,
+        message_len: usize,
+        visits: u32,
+        content: u64,
+        verdict: *mut Stored,
+    ) -> u32;
+
     fn scalgo_field(
         coding: u32,
         schema: *const u8,
@@ -150,30 +163,57 @@ impl Stored {
 /// The proved library.
 pub struct LibraryCalls;
 
+/// One of the two engines, which have the same signature.
+type Engine = unsafe extern "C" fn(
+    u32,
+    *const u8,
+    usize,
+    *const u8,
+    usize,
+    *const u8,
+    usize,
+    u32,
+    u64,
+    *mut Stored,
+) -> u32;
+
+fn judge_by(engine: Engine, schema: &Packed, message: &[u8], budget: Budget) -> Verdict {
+    let mut stored = Stored::UNSET;
+    // SAFETY: each slice is given as its pointer and its length and is not written to during
+    // the call; what is stored is this function's own.
+    let number = unsafe {
+        engine(
+            schema.coding(),
+            schema.bytes().as_ptr(),
+            schema.bytes().len(),
+            schema.positions().as_ptr(),
+            schema.positions().len(),
+            message.as_ptr(),
+            message.len(),
+            budget.visits,
+            budget.content,
+            &mut stored,
+        )
+    };
+    stored.verdict(number)
+}
+
 impl Judge for LibraryCalls {
     fn name(&self) -> &'static str {
         "proved library"
     }
 
+    /// The verdict of both engines, which are run side by side on everything that is judged.
     fn judge(&self, schema: &Packed, message: &[u8], budget: Budget) -> Verdict {
-        let mut stored = Stored::UNSET;
-        // SAFETY: each slice is given as its pointer and its length and is not written to during
-        // the call; what is stored is this function's own.
-        let number = unsafe {
-            scalgo_judge(
-                schema.coding(),
-                schema.bytes().as_ptr(),
-                schema.bytes().len(),
-                schema.positions().as_ptr(),
-                schema.positions().len(),
-                message.as_ptr(),
-                message.len(),
-                budget.visits,
-                budget.content,
-                &mut stored,
-            )
-        };
-        stored.verdict(number)
+        let first = judge_by(scalgo_judge, schema, message, budget);
+        let second = judge_by(scalgo_judge_iterative, schema, message, budget);
+        assert_eq!(
+            first,
+            second,
+            "the engines differ: schema {:02x?}, message {message:02x?}",
+            schema.bytes()
+        );
+        first
     }
 }
 
