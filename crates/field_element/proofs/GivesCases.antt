@@ -80,22 +80,17 @@ module _ (o d : ℕ) (S : Schema) (m : List ℕ) (ob : Object) (x : ℕ) where
         ap (λ (y : ℕ). A.Object y x n) ek ∙ ap Field.answerOf (arrive-content o d S m ob (ByOffset x) x refl l g eg start n q)
 
 -- ---- an offset's
-module _ (o d : ℕ) (S : Schema) (m : List ℕ) (ob : Object) (y : ℕ) where
-  none-at : (x : ℕ) → y ≡ x → y ≡ 0 → A.Absent ≡ offsetGives d o S m ob x
+module _ (o d : ℕ) (S : Schema) (m : List ℕ) (ob : Object) (x : ℕ) where
+  pub reference-none : x ≡ 0 → A.Absent ≡ offsetGives d o S m ob x
   unfolding offsetGives
-  none-at x ey z = simp (eq-eqb _ _ (sym ey ∙ z))
+  reference-none z = simp (eq-eqb _ _ z)
 
-  there-at : (x : ℕ) → y ≡ x → (y ≡ 0 → ⊥) → (r : Answer) → r ≡ Field.answerOf (Field.arrived d o S m ob (ByOffset y)) → r ≡ offsetGives d o S m ob x
+  pub reference-there : (x ≡ 0 → ⊥) → (r : Answer) → r ≡ Field.answerOf (Field.arrived d o S m ob (ByOffset x)) → r ≡ offsetGives d o S m ob x
   unfolding offsetGives
-  there-at x ey z r e =
-      simp (ne-eqb x 0 (λ w. z (ey ∙ w))) (e ∙ ap (λ (q : ℕ). Field.answerOf (Field.arrived d o S m ob (ByOffset q))) ey)
+  reference-there z r e = simp (ne-eqb _ _ z) e
 
-  pub offset-none : (at : ℕ) → y ≡ le m at o → y ≡ 0 → A.Absent ≡ offsetGives d o S m ob (le m at o)
-  offset-none at num z = none-at (le m at o) num z
-
-  pub offset-there : (at : ℕ) → y ≡ le m at o → (y ≡ 0 → ⊥) → (r : Answer) → r ≡ Field.answerOf (Field.arrived d o S m ob (ByOffset y))
-      → r ≡ offsetGives d o S m ob (le m at o)
-  offset-there at num z r e = there-at (le m at o) num z r e
+  pub offset-read : (at : ℕ) → x ≡ le m at o → (r : Answer) → r ≡ offsetGives d o S m ob x → r ≡ offsetGives d o S m ob (le m at o)
+  offset-read at ex r e = e ∙ ap (offsetGives d o S m ob) ex
 
 -- ---- an element's
 module _ (o : ℕ) (S : Schema) (m : List ℕ) (i at start n d j : ℕ) (r : Answer) where

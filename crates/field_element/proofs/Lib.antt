@@ -1,3 +1,4 @@
 pub mod ReaderCases
 pub mod GivesCases
 pub mod StepCases
+pub mod ReferringCases

@@ -21,6 +21,7 @@ ghost use Rattle.schema.specs.Directory.{Accepted, AcceptedUnder};
 ghost use Rattle.field_arrival.specs.Within.{Readable, FoundIn};
 ghost use Rattle.field_arrival.specs.Parts.{arrivedBy, objectPartBy};
 ghost use Rattle.field_element.specs.Listed.{Listed, Reads, offsetGives};
+ghost use Rattle.field_element.specs.Referring.{RefersIn, RefersAt, Refers};
 ghost use Rattle.wire.specs.Sizes.{Width, HasOffset};
 
 // ---- the list
@@ -111,6 +112,25 @@ fn arrive_answer(
     }
 }
 
+// The answer of an element that is offset x.
+pub fn reference_answer(
+    b: &[u8],
+    dir: &[u16],
+    m: &[u8],
+    d: usize,
+    ob: Object,
+    x: usize,
+    o: usize,
+) -> Answer
+    requires { ⌜ (Accepted (now b) (now dir)) × (Width o) × (ObjectSound (P.parse (now b)) ob) × (x < 2 ^ 48) ⌝ }
+    ensures { λ r. ⌜ r ≡ offsetGives d o (P.parse (now (b .entry))) (now (m .entry)) ob x ⌝ }
+{
+    if x == 0 {
+        return Answer::Absent;
+    }
+    arrive_answer(b, dir, m, d, ob, x, o)
+}
+
 // The answer of an element that is the offset at a place of the message.
 fn offset_answer(
     b: &[u8],
@@ -124,11 +144,7 @@ fn offset_answer(
     requires { ⌜ (Accepted (now b) (now dir)) × (Width o) × (ObjectSound (P.parse (now b)) ob) × (Readable (now m)) × (HasOffset o (now m) at) ⌝ }
     ensures { λ r. ⌜ r ≡ offsetGives d o (P.parse (now (b .entry))) (now (m .entry)) ob (B.le (now (m .entry)) at o) ⌝ }
 {
-    let x = wire::offset_in(m, at, o);
-    if x == 0 {
-        return Answer::Absent;
-    }
-    arrive_answer(b, dir, m, d, ob, x, o)
+    reference_answer(b, dir, m, d, ob, wire::offset_in(m, at, o), o)
 }
 
 // The answer of element j of a list, whatever its kind is.
@@ -217,6 +233,82 @@ pub fn step_answer(b: &[u8], dir: &[u16], m: &[u8], list: Found, j: usize, o: us
                 left,
             };
             list_answer(b, dir, m, ob, c, j, o)
+        }
+    }
+}
+
+// ---- a list of references
+// The references of a list: how many, none where its elements are other ones; the object that each leads to, where the first one
+// stands, and the objects of depth that are left below the list.
+pub struct References {
+    pub count: usize,
+    pub object: Object,
+    pub start: usize,
+    pub left: usize,
+}
+
+// No references.
+fn no_references() -> References
+    ensures { λ r. ⌜ r .count ≡ 0 ⌝ }
+{
+    References {
+        count: 0,
+        object: Object::Text,
+        start: 0,
+        left: 0,
+    }
+}
+
+// The references of list i of the schema.
+fn references_in(b: &[u8], dir: &[u16], i: usize, c: Content) -> References
+    requires { ⌜ (Accepted (now b) (now dir)) × (i < P.listCount (now b)) ⌝ }
+    ensures { λ r. ⌜ RefersIn (P.parse (now (b .entry))) i c r ⌝ }
+{
+    match schema::element(b, dir, i) {
+        Kind::OfFlat(_) => no_references(),
+        Kind::OfObject(ob) => References {
+            count: c.length,
+            object: ob,
+            start: c.start,
+            left: c.left,
+        },
+        Kind::OfUnion(_) => no_references(),
+    }
+}
+
+// The references of an object.
+fn references_at(b: &[u8], dir: &[u16], ob: Object, c: Content) -> References
+    requires { ⌜ (Accepted (now b) (now dir)) × ObjectSound (P.parse (now b)) ob ⌝ }
+    ensures { λ r. ⌜ RefersAt (P.parse (now (b .entry))) ob c r ⌝ }
+{
+    match ob {
+        Object::Text => no_references(),
+        Object::Bytes => no_references(),
+        Object::List(i) => references_in(b, dir, wire::index(i), c),
+        Object::Table(_) => no_references(),
+        Object::DirectList(_) => no_references(),
+    }
+}
+
+// The references of the list that a reader goes over.
+pub fn references_of(b: &[u8], dir: &[u16], m: &[u8], list: Found, o: usize) -> References
+    requires { ⌜ (Accepted (now b) (now dir)) × FoundIn o (now b) (now m) list ⌝ }
+    ensures { λ r. ⌜ Refers o (P.parse (now (b .entry))) (now (m .entry)) list r ⌝ }
+{
+    match list {
+        Found::Refused(_) => no_references(),
+        Found::Absent => no_references(),
+        Found::Unknown(_) => no_references(),
+        Found::Value(_, _, _) => no_references(),
+        Found::Struct(_, _, _) => no_references(),
+        Found::Object(ob, place, start, length, left) => {
+            let c = Content {
+                place,
+                start,
+                length,
+                left,
+            };
+            references_at(b, dir, ob, c)
         }
     }
 }

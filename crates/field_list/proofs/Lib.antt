@@ -1,1 +1,2 @@
 pub mod ListCases
+pub mod AheadCases

@@ -2,8 +2,10 @@
 use coding::Answer;
 use coding::Case;
 use coding::Found;
+use field_element::References;
+use wire_offsets::Ahead;
 ghost use mathlib.Core.Path.{_≡_};
-ghost use Prim.Native.Nat.{_+_, _≤_};
+ghost use Prim.Native.Nat.{_+_, _<_, _≤_};
 ghost use lib.ListN.{length, take, drop};
 ghost use mathlib.Core.List.{_++_};
 ghost use Rattle.coding.specs.Field as F;
@@ -12,6 +14,8 @@ ghost use Rattle.coding.specs.Positions as Po;
 ghost use Rattle.schema.specs.Directory.{Accepted, AcceptedUnder};
 ghost use Rattle.field_arrival.specs.Within.{FoundIn};
 ghost use Rattle.field_element.specs.Listed.{Reads};
+ghost use Rattle.field_element.specs.Referring.{Refers};
+ghost use Rattle.wire_offsets.specs.Held as Hs;
 ghost use Rattle.wire.specs.Sizes.{Width};
 ghost use Rattle.field_list.specs.Stepping as St;
 
@@ -39,18 +43,65 @@ fn put_same(out: &mut [u64], answer: Answer)
     }
 }
 
+// The references that were read ahead, where element j is one: with it, and more of them if none was left.
+fn ahead_of(m: &[u8], refs: References, j: usize, f: Ahead, o: usize) -> Ahead
+    requires { ⌜ (Width o) × St.Lies o (now m) refs × St.Read o (now m) refs j f ⌝ }
+    ensures { λ r. ⌜ St.Refilled o (now (m .entry)) refs j r ⌝ }
+{
+    if refs.count <= j {
+        return f;
+    }
+    wire_offsets::refilled(m, refs.start + o * j, refs.count - j, f, o)
+}
+
+// What is left of them behind the first.
+fn passed(f: Ahead) -> Ahead
+    ensures { λ r. ⌜ (0 < f .count → r ≡ Hs.behindOf f) ⌝ }
+{
+    if 0 < f.count {
+        return wire_offsets::behind(f);
+    }
+    f
+}
+
+// The answer of the step at element j: by offset x, where it is one.
+fn answer_at(
+    b: &[u8],
+    dir: &[u16],
+    m: &[u8],
+    list: Found,
+    refs: References,
+    x: usize,
+    j: usize,
+    o: usize,
+) -> Answer
+    requires { ⌜ (Accepted (now b) (now dir)) × (Width o) × (FoundIn o (now b) (now m) list) × (Reads list) ⌝ }
+    requires { ⌜ (Refers o (P.parse (now b)) (now m) list refs) × St.IsAt o (now m) refs j x ⌝ }
+    ensures { λ r. ⌜ r ≡ F.listGives o (P.parse (now (b .entry))) (now (m .entry)) list j ⌝ }
+{
+    if refs.count <= j {
+        return field_element::step_answer(b, dir, m, list, j, o);
+    }
+    let ob = refs.object;
+    field_element::reference_answer(b, dir, m, refs.left, ob, x, o)
+}
+
 // As many steps as the output has room for, from an element on, of the list that was found.
 fn put_steps(b: &[u8], dir: &[u16], m: &[u8], list: Found, from: usize, out: &mut [u64], o: usize)
     requires { ⌜ (Accepted (now b) (now dir)) × (Width o) × (FoundIn o (now b) (now m) list) × (Reads list) ⌝ }
     ensures { λ _. ⌜ now (out .exit) ≡ F.stepsOver (F.listGives o (P.parse (now (b .entry))) (now (m .entry)) list) (F.listCount list) from (now (out .entry)) ⌝ }
 {
     let n = field_element::list_count(list);
+    let refs = field_element::references_of(b, dir, m, list, o);
     let steps = out.len() / 4;
     let mut j = from;
     let mut i: usize = 0;
+    let mut f = wire_offsets::nothing();
     while i < steps {
-        let answer = field_element::step_answer(b, dir, m, list, j, o);
+        f = ahead_of(m, refs, j, f, o);
+        let answer = answer_at(b, dir, m, list, refs, f.first, j, o);
         put_case(out, 4 * i, field::case_of(answer));
+        f = passed(f);
         j = field_element::reader_next(n, j);
         i += 1;
     }

@@ -174,13 +174,22 @@ fn row_tables(
     let mut w = content;
     let mut at = x.start;
     let mut j: usize = 0;
+    let mut f = wire_offsets::nothing();
     while j < x.length {
-        let g = refer_row(b, m, depth, k, wire::offset_in(m, at, o), v, w, o);
+        let n = wire_offsets::nones(m, at, x.length - j, f.count, o);
+        if 0 < n {
+            at += o * n;
+            j += n;
+            continue;
+        }
+        f = wire_offsets::refilled(m, at, x.length - j, f, o);
+        let g = refer_row(b, m, depth, k, f.first, v, w, o);
         if g.code != 0 {
             return g;
         }
         v = g.visits;
         w = g.content;
+        f = wire_offsets::behind(f);
         at += o;
         j += 1;
     }

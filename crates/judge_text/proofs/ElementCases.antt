@@ -1,8 +1,9 @@
 -- The elements of a list, from one of them on.
-use mathlib.Core.Path.{_≡_, refl, sym, ap, _∙_}
+use mathlib.Core.Path.{_≡_, refl, sym, ap, ap₂, _∙_}
 use mathlib.Core.Bool.{Bool, true, false}
 use mathlib.Core.List.{List}
-use Prim.Native.Nat.{ℕ, suc, _+_, _-_, _*_, _^_, _<_, _≤_}
+use Prim.Native.Nat.{ℕ, zero, suc, _+_, _-_, _*_, _^_, _<_, _≤_}
+use native.Mathlib.Nat.{add-zero, mul-add, mul-le-mul-left}
 use native.Mathlib.Omega.{arith}
 use lib.Dec.{eqb}
 use borrow.Author.Tests.{eq-eqb, ne-eqb}
@@ -22,6 +23,7 @@ use Rattle.coding.specs.declared.Spent.{Spent}
 use Rattle.coding.specs.declared.Walked.{Walked}
 use Rattle.coding.specs.declared.Walked.the-variants.{Going}
 use Rattle.wire.specs.Products.{times-more, times-within}
+use Rattle.wire_offsets.specs.Zeros.{zero-value, zero-values}
 use Rattle.outcome.specs.declared.Outcome.{Outcome}
 use Rattle.outcome.specs.Answers.{walkedOf, leftOf, referred}
 use Rattle.outcome.proofs.AnswerCases.{goes, stops}
@@ -69,6 +71,27 @@ value-fits w start n j at c e h l small = omega (arith, value-there w start n j 
 pub value-next : (w start j at : ℕ) → at ≡ start + w * j → at + w ≡ start + w * (j + 1)
 value-next w start j at e = omega (arith, times-more w j)
 
+-- those from value j on are there
+pub values-there : (w start n j at c : ℕ) → at ≡ start + w * j → j < n → start + w * n ≤ c → at + w * (n - j) ≤ c
+values-there w start n j at c e h l =
+    let q : n ≡ j + (n - j) = omega arith in
+    let p : w * n ≡ w * (j + (n - j)) = ap (λ (i : ℕ). w * i) q in
+    let r = mul-add w j (n - j) in
+    omega arith
+
+-- k of them: their bytes, and the place behind them, are numbers of the machine
+pub values-within : (w start n j at c k : ℕ) → at ≡ start + w * j → j < n → start + w * n ≤ c → k ≤ n - j → at + w * k ≤ c
+values-within w start n j at c k e h l q = omega (arith, values-there w start n j at c e h l, mul-le-mul-left w q)
+
+pub values-size : (w start n j at c k : ℕ) → at ≡ start + w * j → j < n → start + w * n ≤ c → k ≤ n - j → c ≤ 16777215 → w * k < 2 ^ 64
+values-size w start n j at c k e h l q small = omega (arith, values-within w start n j at c k e h l q)
+
+pub values-fit : (w start n j at c k : ℕ) → at ≡ start + w * j → j < n → start + w * n ≤ c → k ≤ n - j → c ≤ 16777215 → at + w * k < 2 ^ 64
+values-fit w start n j at c k e h l q small = omega (arith, values-within w start n j at c k e h l q)
+
+pub values-next : (w start j at k : ℕ) → at ≡ start + w * j → at + w * k ≡ start + w * (j + k)
+values-next w start j at k e = omega (arith, mul-add w j k)
+
 -- ---- the offsets of a list
 module _ (child : W.Child) (ob : Object) (x : ℕ) (s : Spent) (r : Walked) where
   pub refer-none : x ≡ 0 → r ≡ Going s → r ≡ referred child ob x s
@@ -106,3 +129,34 @@ module _ (o : ℕ) (child : W.Child) (S : Schema) (m : List ℕ) (holder start :
   pub references-turn : g .code ≡ 0
       → W.elements child o S m holder start (OfObject ob) n 0 s ≡ W.elements child o S m holder start (OfObject ob) (n - (j + 1)) (j + 1) (leftOf g)
   references-turn f = elements-turn child o S m holder start (OfObject ob) n s j v inv h g by-step f
+
+-- ---- offsets that lead nowhere
+module _ (child : W.Child) (o : ℕ) (S : Schema) (m : List ℕ) (holder start : ℕ) (ob : Object) where
+  none-goes : (i : ℕ) (s : Spent) → le m (start + o * i) o ≡ 0 → W.follow child holder i (T.elementStep o S m (OfObject ob) start i) s ≡ Going s
+  unfolding referred
+  none-goes i s z =
+      ap (λ (q : Step). W.follow child holder i q s) (sym (offset-step o S m ob start i (start + o * i) 0 refl (sym z)))
+      ∙ sym (follow-offset child S m holder i ob 0 s)
+
+  -- k of them
+  nones-go : (k n i : ℕ) (s : Spent) → le m (start + o * i) (o * k) ≡ 0
+      → W.elements child o S m holder start (OfObject ob) (n + k) i s ≡ W.elements child o S m holder start (OfObject ob) n (i + k) s
+  unfolding W.elements W.andThen
+  nones-go zero n i s z = ap₂ (λ (q r : ℕ). W.elements child o S m holder start (OfObject ob) q r s) (add-zero n) (sym (add-zero i))
+  nones-go (suc k) n i s z =
+      let e : i + 1 + k ≡ i + suc k = omega arith in
+      let g : n + suc k ≡ suc (n + k) = omega arith in
+      let f : start + o * i + o ≡ start + o * (i + 1) = omega (arith, times-more o i) in
+      ap (λ (q : ℕ). W.elements child o S m holder start (OfObject ob) q i s) g
+      ∙ ap (λ (w : Walked). W.andThen w (W.elements child o S m holder start (OfObject ob) (n + k) (i + 1))) (none-goes i s (zero-value m o (start + o * i) k z))
+      ∙ nones-go k n (i + 1) s (ap (λ (q : ℕ). le m q (o * k)) (sym f) ∙ zero-values m o (start + o * i) k z)
+      ∙ ap (λ (q : ℕ). W.elements child o S m holder start (OfObject ob) n q s) e
+
+  module _ (n : ℕ) (s : Spent) (j : ℕ) (v : Spent)
+      (inv : W.elements child o S m holder start (OfObject ob) n 0 s ≡ W.elements child o S m holder start (OfObject ob) (n - j) j v) (at : ℕ) (ea : at ≡ start + o * j) where
+    pub references-skip : (k : ℕ) → k ≤ n - j → le m at (o * k) ≡ 0
+        → W.elements child o S m holder start (OfObject ob) n 0 s ≡ W.elements child o S m holder start (OfObject ob) (n - (j + k)) (j + k) v
+    references-skip k l z =
+        let e : n - j ≡ n - (j + k) + k = omega arith in
+        inv ∙ ap (λ (q : ℕ). W.elements child o S m holder start (OfObject ob) q j v) e
+        ∙ nones-go k (n - (j + k)) j v (ap (λ (q : ℕ). le m q (o * k)) (sym ea) ∙ z)

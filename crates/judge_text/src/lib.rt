@@ -107,13 +107,22 @@ pub fn texts(
     let mut w = content;
     let mut at = x.start;
     let mut j: usize = 0;
+    let mut f = wire_offsets::nothing();
     while j < x.length {
-        let g = refer_text(b, m, depth, wire::offset_in(m, at, o), v, w, o);
+        let k = wire_offsets::nones(m, at, x.length - j, f.count, o);
+        if 0 < k {
+            at += o * k;
+            j += k;
+            continue;
+        }
+        f = wire_offsets::refilled(m, at, x.length - j, f, o);
+        let g = refer_text(b, m, depth, f.first, v, w, o);
         if g.code != 0 {
             return g;
         }
         v = g.visits;
         w = g.content;
+        f = wire_offsets::behind(f);
         at += o;
         j += 1;
     }

@@ -3,3 +3,4 @@ pub mod Elements
 pub mod Enums
 pub mod Numbers
 pub mod Words
+pub mod Nones

@@ -226,6 +226,28 @@ pub fn put_bools(m: &[u8], out: &mut [u8], pos: usize, start: usize, n: usize) -
     p
 }
 
+// The marks of n references that lead nowhere: counted at once where there is no room.
+pub fn put_nones(out: &mut [u8], pos: usize, n: usize) -> usize
+    requires { ⌜ (Room (now out) pos) × (n < 2 ^ 48) ⌝ }
+    ensures { λ r. ⌜ Puts (now (out .entry)) pos (bitsOf (2 * n) 0) (now (out .exit)) r ⌝ }
+{
+    let end = pos + 2 * n;
+    if sheet_values::MOST < end {
+        return sheet_values::OVER;
+    }
+    if 8 * out.len() < end {
+        return end;
+    }
+    let mut p = pos;
+    let mut i: usize = 0;
+    while i < n {
+        let w = gathered(n - i, 28);
+        p = bitio::write(out, p, 2 * w, 0);
+        i += w;
+    }
+    p
+}
+
 // 1 for a float of w bytes that is a value, 0 for a NaN.
 fn float_value(w: u8, x: u64) -> usize
     ensures { λ r. ⌜ (length (Marks.floatAt true w x) ≡ 2 + 8 * w * r) × (r ≤ 1) ⌝ }

@@ -823,12 +823,21 @@ fn put_references(
     let mut p = pos;
     let mut at = part.start;
     let mut j: usize = 0;
+    let mut f = wire_offsets::nothing();
     while j < n {
         if sheet_values::MOST < p {
             return p;
         }
-        let x = wire::offset_in(m, at, o);
-        p = put_element(b, dir, m, out, d, ob, x, p, o);
+        let k = wire_offsets::nones(m, at, n - j, f.count, o);
+        if 0 < k {
+            p = sheet_lists::put_nones(out, p, k);
+            at += o * k;
+            j += k;
+            continue;
+        }
+        f = wire_offsets::refilled(m, at, n - j, f, o);
+        p = put_element(b, dir, m, out, d, ob, f.first, p, o);
+        f = wire_offsets::behind(f);
         at += o;
         j += 1;
     }

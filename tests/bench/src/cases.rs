@@ -176,12 +176,12 @@ fn small_older(coding: Coding) -> Case {
 }
 
 /// The root table has a list and nothing else.
-fn root(list: usize) -> Table {
+pub fn root(list: usize) -> Table {
     Table::new(ROOT, &[Record::of(LIST, list)])
 }
 
 /// The root and its list; answers where the list's elements start.
-fn put_list(message: &mut Message, count: usize, element: usize) -> usize {
+pub fn put_list(message: &mut Message, count: usize, element: usize) -> usize {
     message.header(ROOT, message.width());
     message.refer_behind();
     message.header(LIST_MAGIC, count);

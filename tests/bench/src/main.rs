@@ -1,8 +1,8 @@
 //! Times the library, the second program and, where they judge, the plain Rust program on the same
 //! messages, in one process and in turn, and measures the stack that two of them use at the
 //! greatest depth. `--quick` takes few samples and leaves out the case that takes seconds;
-//! `--texts` times texts at volume alone, `--tasks` all but judging, and `--spin NAME` runs the
-//! library's side of one row for a profiler.
+//! `--texts` times texts at volume alone, `--references` lists of references, `--tasks` fields, lists,
+//! sheets and messages written, and `--spin NAME` runs the library's side of one row for a profiler.
 //!
 //! It fails where a verdict is not the expected one or two programs differ.
 
@@ -11,6 +11,7 @@ mod depth;
 mod judging;
 mod message;
 mod programs;
+mod references;
 mod schema;
 mod stack;
 mod tasks;
@@ -56,14 +57,26 @@ fn speed(bytes: usize, ours: f64, second: f64) -> String {
     format!("{:>8.2} {:>8.2}", bytes / ours, bytes / second)
 }
 
+/// What the speed of a task is counted by.
+const SPEED_OF_TASKS: &str = "half of the bytes in and out together";
+const SPEED_OF_REFERENCES: &str = "of the references' bytes";
+
 fn time_tasks(plan: &Plan) -> bool {
-    println!("Nanoseconds a call; the last two are GB/s, half of the bytes in and out together.");
+    time_each(plan, SPEED_OF_TASKS, tasks::all())
+}
+
+fn time_references(plan: &Plan) -> bool {
+    time_each(plan, SPEED_OF_REFERENCES, references::tasks())
+}
+
+fn time_each(plan: &Plan, counted: &str, tasks: impl Iterator<Item = Task>) -> bool {
+    println!("Nanoseconds a call; the last two are GB/s, {counted}.");
     println!(
         "{:<50} {:>12} {:>12} {:>12} {:>12} {:>7} {:>7} {:>8} {:>8}",
         "task", "ours best", "median", "ref best", "median", "best", "median", "ours", "ref",
     );
     let mut sound = true;
-    for task in tasks::all() {
+    for task in tasks {
         match task.fault() {
             None => time_task(plan, &task),
             Some(report) => {
@@ -128,7 +141,8 @@ fn side_of(name: &str) -> Option<Box<dyn Fn()>> {
     if let Some(batch) = batches.find(|batch| batch.name.contains(name)) {
         return Some(Box::new(move || _ = black_box(batch.ours())));
     }
-    let task = tasks::all().find(|task| task.name.contains(name))?;
+    let mut tasks = tasks::all().chain(references::tasks());
+    let task = tasks.find(|task| task.name.contains(name))?;
     Some(Box::new(move || _ = black_box((task.ours)())))
 }
 
@@ -145,7 +159,7 @@ fn spin(name: &str) -> bool {
     true
 }
 
-const USAGE: &str = "usage: bench [--quick] [--tasks | --texts]
+const USAGE: &str = "usage: bench [--quick] [--tasks | --texts | --references]
        bench --spin NAME";
 
 fn main() -> ExitCode {
@@ -159,6 +173,8 @@ fn main() -> ExitCode {
         ["--quick", "--tasks"] => time_tasks(&Plan::quick()),
         ["--texts"] => texts::times(&full),
         ["--quick", "--texts"] => texts::times(&Plan::quick()),
+        ["--references"] => time_references(&full),
+        ["--quick", "--references"] => time_references(&Plan::quick()),
         ["--spin", name] => spin(name),
         _ => {
             eprintln!("{USAGE}");
@@ -179,14 +195,16 @@ fn all(plan: &Plan) -> bool {
     let measured = stacks();
     println!();
     let worked = time_tasks(plan);
-    timed && read && measured && worked
+    println!();
+    let referred = time_references(plan);
+    timed && read && measured && worked && referred
 }
 
 #[cfg(test)]
 mod tests {
     use super::cases::{self, Case};
     use super::timing::{self, Plan};
-    use super::{depth, fault, ours, stack, tasks, texts, CASES};
+    use super::{depth, fault, ours, references, stack, tasks, texts, CASES};
     use scalgo::Coding::Bits48;
     use std::cell::RefCell;
     use std::hint::black_box;
@@ -209,7 +227,8 @@ mod tests {
 
     #[test]
     fn both_programs_do_the_same_tasks() {
-        let faults: Vec<String> = tasks::all().filter_map(|task| task.fault()).collect();
+        let tasks = tasks::all().chain(references::tasks());
+        let faults: Vec<String> = tasks.filter_map(|task| task.fault()).collect();
         assert!(faults.is_empty(), "{}", faults.join("\n"));
     }
 

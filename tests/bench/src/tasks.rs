@@ -122,7 +122,7 @@ fn sum(bytes: &[u8]) -> u64 {
 }
 
 /// An outcome without bytes. A first number of 0 says that the call went well.
-fn numbers(numbers: &[u64]) -> Outcome {
+pub fn numbers(numbers: &[u64]) -> Outcome {
     Outcome {
         numbers: numbers.to_vec(),
         sum: 0,
@@ -354,7 +354,7 @@ fn sheet_of(case: &Case) -> Vec<u8> {
 }
 
 /// A message to its sheet. The library is lent its output; the second program makes its own.
-fn read(case: Case) -> Task {
+pub fn read(case: Case) -> Task {
     let room = sheet_of(&case).len() + 100;
     let output = RefCell::new(vec![0; room]);
     let (name, bytes) = (

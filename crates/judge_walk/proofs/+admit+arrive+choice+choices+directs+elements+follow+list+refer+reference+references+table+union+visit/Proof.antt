@@ -16,7 +16,8 @@ use Rattle.judge_walk.proofs.AdmitCases.{visit-content, below-falls, ad
 use Rattle.judge_walk.proofs.WalkCases.{arrive-text, arrive-offset, arrive-inplace, follow-absent, follow-value, follow-unknown, follow-struct, follow-refused, follow-object, follow-choice, object-small, object-place, choice-small, choice-place, union-none, union-offset, union-inplace}
 use Rattle.judge_rows.proofs.MemberCases.{members-start, members-ended, members-done, members-stopped, members-turn, members-nowhere}
 use Rattle.judge_walk.proofs.ListCases.{list-flat, list-objects, list-unions, objects-sound, unions-counted, objects-there, unions-there, references-texts, choice-number, choices-stopped, choices-turn, choice-none, choice-unknown, choice-known, choice-sound}
-use Rattle.judge_text.proofs.ElementCases.{value-there, value-fits, value-next, elements-start, elements-done, references-stopped, references-turn, refer-none, refer-object}
+use Rattle.judge_text.proofs.ElementCases.{value-there, value-fits, value-next, elements-start, elements-done, references-stopped, references-turn, values-there, values-size, values-fit, values-next, references-skip, refer-none, refer-object}
+use Rattle.wire_offsets.specs.Held.{Held, held-none, held-behind, held-moved}
 use Rattle.coding.specs.declared.Kind.the-variants.{OfObject, OfUnion}
 use Prim.Native.Nat.{ℕ, _+_, _-_, _*_, _<_, _≤_}
 use borrow.Fn.Kinds.{In}
@@ -104,6 +105,10 @@ use Rattle.wire.proofs.index.Reads as index-reads
 use Rattle.wire.proofs.offset_in.Reads as offset-in-reads
 use Rattle.wire.proofs.u16_in.Reads as u16-in-reads
 use Rattle.wire.proofs.union_size.Reads as union-size-reads
+use Rattle.wire_offsets.proofs.behind.Reads as behind-reads
+use Rattle.wire_offsets.proofs.nones.Reads as nones-reads
+use Rattle.wire_offsets.proofs.nothing.Reads as nothing-reads
+use Rattle.wire_offsets.proofs.refilled.Reads as refilled-reads
 use Rattle.judge_walk.proofs.+admit+arrive+choice+choices+directs+elements+follow+list+refer+reference+references+table+union+visit.{
   statement,
 }
@@ -272,7 +277,7 @@ abbrev reference-R : ℕ → reference-lts.Claims
 reference-R t = (going-reads.Asked, going-reads.Learnt, refuse-part-reads.Asked, refuse-part-reads.Learnt, offset-in-reads.Asked, offset-in-reads.Learnt, object-at-reads.Asked, object-at-reads.Learnt, is-text-reads.Asked, is-text-reads.Learnt, refer-text-reads.Asked, refer-text-reads.Learnt, refer-below t, refer.Post)
 
 abbrev references-R : ℕ → references-lts.Claims
-references-R t = (is-text-reads.Asked, is-text-reads.Learnt, texts-reads.Asked, texts-reads.Learnt, is-row-table-reads.Asked, is-row-table-reads.Learnt, row-references-reads.Asked, row-references-reads.Learnt, offset-in-reads.Asked, offset-in-reads.Learnt, refer-below t, refer.Post, going-reads.Asked, going-reads.Learnt)
+references-R t = (is-text-reads.Asked, is-text-reads.Learnt, texts-reads.Asked, texts-reads.Learnt, is-row-table-reads.Asked, is-row-table-reads.Learnt, row-references-reads.Asked, row-references-reads.Learnt, nothing-reads.Asked, nothing-reads.Learnt, nones-reads.Asked, nones-reads.Learnt, refilled-reads.Asked, refilled-reads.Learnt, refer-below t, refer.Post, behind-reads.Asked, behind-reads.Learnt, going-reads.Asked, going-reads.Learnt)
 
 abbrev table-R : ℕ → table-lts.Claims
 table-R t = (member-count-reads.Asked, member-count-reads.Learnt, table-place-reads.Asked, table-place-reads.Learnt, begin-reads.Asked, begin-reads.Learnt, bit-byte-reads.Asked, bit-byte-reads.Learnt, going-reads.Asked, going-reads.Learnt, record-place-reads.Asked, record-place-reads.Learnt, refers-reads.Asked, refers-reads.Learnt, reference-below t, reference.Post, after-bytes-reads.Asked, after-bytes-reads.Learnt, lead-member-reads.Asked, lead-member-reads.Learnt, leads-nowhere-reads.Asked, leads-nowhere-reads.Learnt, follow-below t, follow.Post)
@@ -657,12 +662,12 @@ reference-returns-4 : (t : ℕ) → reference-lts.Need-returns-4 (reference-R t)
 reference-returns-4 t c = reference-here _ _ _ _ _ _ _ _ _ (c .before .before .before .before .before .before .before .before .before .before .before .before .before .before .pre .1 .0 .4) _ (c .before .before .before .before .before .before .before .before .if1 .left) (c .before .before .before .before .before .before .if2 .left) _ (c .before .before .before .before .offset-in .ensures .0) _ (c .before .before .before .object-at .ensures) (c .refer .ensures)
 
 abbrev references-Inv-loop : references-lts.InvT-loop
-references-Inv-loop b dir m depth ob x visits content o v₀ w₀ at₀ j₀ v w at j = (j ≤ x .length) × (at ≡ x .start + o * j)
+references-Inv-loop b dir m depth ob x visits content o v₀ w₀ at₀ j₀ f₀ v w at j f = (j ≤ x .length) × (at ≡ x .start + o * j) × Held o m at f
     × (As.elementsBy o b m depth (OfObject ob) x (W.spending visits content)
     ≡ W.elements (As.visitBy o b m depth) o (P.parse b) m (x .holder) (x .start) (OfObject ob) (x .length - j) j (W.spending v w))
 
 abbrev references-μ-loop : references-lts.MeasureT-loop
-references-μ-loop b dir m depth ob x visits content o v₀ w₀ at₀ j₀ v w at j = x .length - j
+references-μ-loop b dir m depth ob x visits content o v₀ w₀ at₀ j₀ f₀ v w at j f = x .length - j
 
 references-is-text-requires : (t : ℕ) → references-lts.Need-is-text-requires (references-R t) (references-at t) references.Post references-Inv-loop references-μ-loop
 references-is-text-requires t c κs = search needs
@@ -682,20 +687,34 @@ references-row-references-requires t c κs = (c .before .before .before .before 
 references-returns-2 : (t : ℕ) → references-lts.Need-returns-2 (references-R t) (references-at t) references.Post references-Inv-loop references-μ-loop
 references-returns-2 t c = c .row-references .ensures
 
+references-nothing-requires : (t : ℕ) → references-lts.Need-nothing-requires (references-R t) (references-at t) references.Post references-Inv-loop references-μ-loop
+references-nothing-requires t c κs = search needs
+
 references-loop-holds : (t : ℕ) → references-lts.Need-loop-holds (references-R t) (references-at t) references.Post references-Inv-loop references-μ-loop
-references-loop-holds t c = (omega arith, omega arith, search elements-start)
+references-loop-holds t c = (omega arith, omega arith, search held-none, search elements-start)
 
-references-offset-in-requires : (t : ℕ) → references-lts.Need-offset-in-requires (references-R t) (references-at t) references.Post references-Inv-loop references-μ-loop
-references-offset-in-requires t c κs = search (value-there, needs)
+references-sub-nones : (t : ℕ) → references-lts.Need-sub-nones (references-R t) (references-at t) references.Post references-Inv-loop references-μ-loop
+references-sub-nones t c = search needs
 
-references-refer-requires : (t : ℕ) → references-lts.Need-refer-requires (references-R t) (references-at t) references.Post references-Inv-loop references-μ-loop
-references-refer-requires t c κs = (omega arith, (c .before .before .before .before .before .before .before .before .before .before .before .pre .1 .0, c .before .before .before .before .before .before .before .before .before .before .before .pre .1 .1, c .before .before .before .before .before .before .before .before .before .before .before .pre .1 .2, c .before .before .before .before .before .before .before .before .before .before .before .pre .1 .3, c .offset-in .ensures .1))
+references-nones-requires : (t : ℕ) → references-lts.Need-nones-requires (references-R t) (references-at t) references.Post references-Inv-loop references-μ-loop
+references-nones-requires t c κs =
+    let inv = c .before .before .before .loop .inv in
+    let pre = c .before .before .before .before .before .before .before .before .before .before .before .before .pre in
+    (pre .1 .1, values-there _ _ _ _ _ _ (inv .1) (c .before .if3 .taken) (pre .1 .4))
 
-references-returns-3 : (t : ℕ) → references-lts.Need-returns-3 (references-R t) (references-at t) references.Post references-Inv-loop references-μ-loop
-references-returns-3 t c = search references-stopped
+references-mul-at : (t : ℕ) → references-lts.Need-mul-at (references-R t) (references-at t) references.Post references-Inv-loop references-μ-loop
+references-mul-at t c =
+    let inv = c .before .before .before .before .before .loop .inv in
+    let pre = c .before .before .before .before .before .before .before .before .before .before .before .before .before .before .pre in
+    let less = c .before .before .before .if3 .taken in
+    record { fits = values-size _ _ _ _ _ _ _ (inv .1) less (pre .1 .4) (c .before .nones .ensures .0) (pre .1 .2) }
 
 references-add-at : (t : ℕ) → references-lts.Need-add-at (references-R t) (references-at t) references.Post references-Inv-loop references-μ-loop
-references-add-at t c = record { fits = value-fits _ _ _ _ _ _ (c .before .before .before .before .before .before .loop .inv .1) (c .before .before .before .before .if3 .taken) (c .before .before .before .before .before .before .before .before .before .before .before .before .before .before .pre .1 .4) (c .before .before .before .before .before .before .before .before .before .before .before .before .before .before .pre .1 .2) }
+references-add-at t c =
+    let inv = c .before .before .before .before .before .loop .inv in
+    let pre = c .before .before .before .before .before .before .before .before .before .before .before .before .before .before .pre in
+    let less = c .before .before .before .if3 .taken in
+    record { fits = values-fit _ _ _ _ _ _ _ (inv .1) less (pre .1 .4) (c .before .nones .ensures .0) (pre .1 .2) }
 
 references-add-j : (t : ℕ) → references-lts.Need-add-j (references-R t) (references-at t) references.Post references-Inv-loop references-μ-loop
 references-add-j t c = search needs
@@ -704,7 +723,59 @@ references-loop-less : (t : ℕ) → references-lts.Need-loop-less (references-R
 references-loop-less t c = search needs
 
 references-loop-again : (t : ℕ) → references-lts.Need-loop-again (references-R t) (references-at t) references.Post references-Inv-loop references-μ-loop
-references-loop-again t c = (omega arith, search value-next, search references-turn)
+references-loop-again t c =
+    let inv = c .before .before .before .before .before .loop .inv in
+    let less = c .before .before .before .if3 .taken in
+    (omega (arith, c .before .nones .ensures .0, less), values-next _ _ _ _ _ (inv .1), search (held-moved, c .before .nones .ensures .2), search (references-skip, inv .3, inv .1, c .before .nones .ensures .0, c .before .nones .ensures .1))
+
+references-sub-refilled : (t : ℕ) → references-lts.Need-sub-refilled (references-R t) (references-at t) references.Post references-Inv-loop references-μ-loop
+references-sub-refilled t c = search needs
+
+references-refilled-requires : (t : ℕ) → references-lts.Need-refilled-requires (references-R t) (references-at t) references.Post references-Inv-loop references-μ-loop
+references-refilled-requires t c κs =
+    let inv = c .before .before .before .before .before .before .loop .inv in
+    let pre = c .before .before .before .before .before .before .before .before .before .before .before .before .before .before .before .pre in
+    let less = c .before .before .before .before .if3 .taken in
+    (pre .1 .1, omega (arith, less), values-there _ _ _ _ _ _ (inv .1) less (pre .1 .4), inv .2)
+
+references-refer-requires : (t : ℕ) → references-lts.Need-refer-requires (references-R t) (references-at t) references.Post references-Inv-loop references-μ-loop
+references-refer-requires t c κs =
+    let pre = c .before .before .before .before .before .before .before .before .before .before .before .before .before .before .before .before .pre in
+    (omega (arith, pre .0), (pre .1 .0, pre .1 .1, pre .1 .2, pre .1 .3, c .refilled .ensures .small))
+
+references-returns-3 : (t : ℕ) → references-lts.Need-returns-3 (references-R t) (references-at t) references.Post references-Inv-loop references-μ-loop
+references-returns-3 t c =
+    let inv = c .before .before .before .before .before .before .before .before .before .before .loop .inv in
+    let less = c .before .before .before .before .before .before .before .before .if3 .taken in
+    let read = c .before .before .before .refilled .ensures in
+    search (references-stopped, inv .3, inv .1, less, read .is, c .before .before .refer .ensures)
+
+references-behind-requires : (t : ℕ) → references-lts.Need-behind-requires (references-R t) (references-at t) references.Post references-Inv-loop references-μ-loop
+references-behind-requires t c κs = c .before .before .before .refilled .ensures .some
+
+references-add-at-2 : (t : ℕ) → references-lts.Need-add-at-2 (references-R t) (references-at t) references.Post references-Inv-loop references-μ-loop
+references-add-at-2 t c =
+    let inv = c .before .before .before .before .before .before .before .before .before .before .before .loop .inv in
+    let pre = c .before .before .before .before .before .before .before .before .before .before .before .before .before .before .before .before .before .before .before .before .pre in
+    let less = c .before .before .before .before .before .before .before .before .before .if3 .taken in
+    record { fits = value-fits _ _ _ _ _ _ (inv .1) less (pre .1 .4) (pre .1 .2) }
+
+references-add-j-2 : (t : ℕ) → references-lts.Need-add-j-2 (references-R t) (references-at t) references.Post references-Inv-loop references-μ-loop
+references-add-j-2 t c = search needs
+
+references-loop-less-2 : (t : ℕ) → references-lts.Need-loop-less-2 (references-R t) (references-at t) references.Post references-Inv-loop references-μ-loop
+references-loop-less-2 t c = search needs
+
+references-loop-again-2 : (t : ℕ) → references-lts.Need-loop-again-2 (references-R t) (references-at t) references.Post references-Inv-loop references-μ-loop
+references-loop-again-2 t c =
+    let inv = c .before .before .before .before .before .before .before .before .before .before .before .loop .inv in
+    let less = c .before .before .before .before .before .before .before .before .before .if3 .taken in
+    let read = c .before .before .before .before .refilled .ensures in (
+      omega (arith, less),
+      value-next _ _ _ _ (inv .1),
+      held-behind _ _ _ _ _ (read .held) (read .some) (c .behind .ensures),
+      search (references-turn, inv .3, inv .1, less, read .is, c .before .before .before .refer .ensures),
+    )
 
 references-going-requires : (t : ℕ) → references-lts.Need-going-requires (references-R t) (references-at t) references.Post references-Inv-loop references-μ-loop
 references-going-requires t c κs = search needs
@@ -1048,14 +1119,24 @@ pub +admit+arrive+choice+choices+directs+elements+follow+list+refer+reference+re
     (references-is-row-table-requires t)
     (references-row-references-requires t)
     (references-returns-2 t)
+    (references-nothing-requires t)
     (references-loop-holds t)
-    (references-offset-in-requires t)
-    (references-refer-requires t)
-    (references-returns-3 t)
+    (references-sub-nones t)
+    (references-nones-requires t)
+    (references-mul-at t)
     (references-add-at t)
     (references-add-j t)
     (references-loop-less t)
     (references-loop-again t)
+    (references-sub-refilled t)
+    (references-refilled-requires t)
+    (references-refer-requires t)
+    (references-returns-3 t)
+    (references-behind-requires t)
+    (references-add-at-2 t)
+    (references-add-j-2 t)
+    (references-loop-less-2 t)
+    (references-loop-again-2 t)
     (references-going-requires t)
     (references-returns-4 t))
     (λ t. table-lts.spec (table-R t)

@@ -20,10 +20,11 @@ use Rattle.sheet_walk.proofs.Values.{reference-none, reference-there, e
 use Rattle.sheet_walk.proofs.Parts.{members-start, readable-start, member-readable, rest-readable, members-turn, members-done, coded-rest, coded-turn, elements-start, elements-readable, elements-rest, elements-done, integer-eight, element-sound, list-few, list-start, list-bools, list-numbers, elements-inside, elements-given}
 use Rattle.sheet_walk.proofs.Blobs.{blob-inside, blob-referred}
 use Rattle.sheet_walk.proofs.Runs.{list-bytes, element-flat, list-flats}
-use Rattle.sheet_walk.proofs.References.{run-inside, run-next, offset-readable, offsets-turn, offsets-inside, offsets-given, list-offsets, chosen-readable, choices-turn, choices-inside, choices-given, list-choices}
+use Rattle.sheet_walk.proofs.References.{run-inside, run-next, run-few, runs-inside, runs-within, runs-few, runs-next, nones-rest, nones-turn, offset-readable, offsets-turn, offsets-inside, offsets-given, list-offsets, chosen-readable, choices-turn, choices-inside, choices-given, list-choices}
 use Rattle.sheet_walk.proofs.CodedMembers.{coded-laid, coded-member}
 use Rattle.sheet_walk.proofs.Directs.{directs-start, directs-readable, directs-over, directs-done, direct-first, direct-rest, direct-turn}
 use Rattle.sheet_walk.proofs.Leads.{lead-above, flat-member, lead-next, lead-past, chosen-given, lead-chosen, referred-given, lead-referred, lead-counted, union-inside, object-inside, lead-laid, lead-readable, lead-rest, lead-turn}
+use Rattle.wire_offsets.specs.Held.{Held, held-none, held-behind, held-moved}
 use borrow.Fn.Kinds.{In}
 use borrow.Fn.PlainCycle.{Measures, is, falls, and}
 use Rattle.sheet_walk.proofs.put_choices.Reads as put-choices
@@ -95,6 +96,11 @@ use Rattle.sheet_walk.proofs.put_coded.Reads as put-coded-reads
 use Rattle.sheet_walk.proofs.put_flat_member.Reads as put-flat-member-reads
 use Rattle.sheet_walk.proofs.put_flats.Reads as put-flats-reads
 use Rattle.wire.proofs.index.Reads as index-reads
+use Rattle.wire_offsets.proofs.behind.Reads as behind-reads
+use Rattle.wire_offsets.proofs.nones.Reads as nones-reads
+use Rattle.wire_offsets.proofs.nothing.Reads as nothing-reads
+use Rattle.wire_offsets.proofs.refilled.Reads as refilled-reads
+use Rattle.sheet_lists.proofs.put_nones.Reads as put-nones-reads
 use Rattle.wire.proofs.offset_in.Reads as offset-in-reads
 use Rattle.wire.proofs.u16_in.Reads as u16-in-reads
 use Rattle.wire.proofs.union_size.Reads as union-size-reads
@@ -259,7 +265,7 @@ abbrev put-reference-R : ℕ → put-reference-lts.Claims
 put-reference-R t = (write-reads.Asked, write-reads.Learnt, place-of-reads.Asked, place-of-reads.Learnt, put-object-below t, put-object.Post)
 
 abbrev put-references-R : ℕ → put-references-lts.Claims
-put-references-R t = (offset-in-reads.Asked, offset-in-reads.Learnt, put-element-below t, put-element.Post)
+put-references-R t = (nothing-reads.Asked, nothing-reads.Learnt, nones-reads.Asked, nones-reads.Learnt, put-nones-reads.Asked, put-nones-reads.Learnt, refilled-reads.Asked, refilled-reads.Learnt, put-element-below t, put-element.Post, behind-reads.Asked, behind-reads.Learnt)
 
 abbrev put-table-R : ℕ → put-table-lts.Claims
 put-table-R t = (member-count-reads.Asked, member-count-reads.Learnt, table-place-reads.Asked, table-place-reads.Learnt, begin-reads.Asked, begin-reads.Learnt, record-place-reads.Asked, record-place-reads.Learnt, code-at-reads.Asked, code-at-reads.Learnt, put-coded-reads.Asked, put-coded-reads.Learnt, behind-coded-reads.Asked, behind-coded-reads.Learnt, kind-at-reads.Asked, kind-at-reads.Learnt, is-flat-kind-reads.Asked, is-flat-kind-reads.Learnt, put-lead-below t, put-lead.Post, lead-width-reads.Asked, lead-width-reads.Learnt, after-bytes-reads.Asked, after-bytes-reads.Learnt, member-at-reads.Asked, member-at-reads.Learnt, put-flat-member-reads.Asked, put-flat-member-reads.Learnt)
@@ -774,16 +780,19 @@ put-reference-returns-2 : (t : ℕ) → put-reference-lts.Need-returns-2 (put-re
 put-reference-returns-2 t c = search reference-there
 
 abbrev put-references-Inv-loop : put-references-lts.InvT-loop
-put-references-Inv-loop b dir m out₀ d ob pos o n p₀ start j₀ out p at j =
-    Room out p × (j ≤ n) × (length out ≡ length out₀) × (at ≡ start + o * j)
+put-references-Inv-loop b dir m out₀ d ob pos o n p₀ start j₀ f₀ out p at j f =
+    Room out p × (j ≤ n) × (length out ≡ length out₀) × (at ≡ start + o * j) × Held o m at f
     × D.ElementsReadable o (D.ObjectReadable o d (P.parse b) m) (P.parse b) m (OfObject ob) start (n - j) j
     × Remaining out₀ pos (A.elementsAt o d (P.parse b) m (OfObject ob) start n 0) out p (A.elementsAt o d (P.parse b) m (OfObject ob) start (n - j) j)
 
 abbrev put-references-μ-loop : put-references-lts.MeasureT-loop
-put-references-μ-loop b dir m out₀ d ob pos o n p₀ start j₀ out p at j = n - j
+put-references-μ-loop b dir m out₀ d ob pos o n p₀ start j₀ f₀ out p at j f = n - j
+
+put-references-nothing-requires : (t : ℕ) → put-references-lts.Need-nothing-requires (put-references-R t) (put-references-at t) put-references.Post put-references-Inv-loop put-references-μ-loop
+put-references-nothing-requires t c κs = search needs
 
 put-references-loop-holds : (t : ℕ) → put-references-lts.Need-loop-holds (put-references-R t) (put-references-at t) put-references.Post put-references-Inv-loop put-references-μ-loop
-put-references-loop-holds t c = (search needs, omega arith, refl, omega arith, search elements-readable, search elements-start)
+put-references-loop-holds t c = (search needs, omega arith, refl, omega arith, search held-none, search elements-readable, search elements-start)
 
 put-references-same-length : (t : ℕ) → put-references-lts.Need-same-length (put-references-R t) (put-references-at t) put-references.Post put-references-Inv-loop put-references-μ-loop
 put-references-same-length t c = search needs
@@ -791,21 +800,20 @@ put-references-same-length t c = search needs
 put-references-returns : (t : ℕ) → put-references-lts.Need-returns (put-references-R t) (put-references-at t) put-references.Post put-references-Inv-loop put-references-μ-loop
 put-references-returns t c = search remaining-over
 
-put-references-offset-in-requires : (t : ℕ) → put-references-lts.Need-offset-in-requires (put-references-R t) (put-references-at t) put-references.Post put-references-Inv-loop put-references-μ-loop
-put-references-offset-in-requires t c κs =
-    let q = c .before .before .before .before .before .before .before .pre .1 .1 .0 in
-    (q .1, run-inside _ _ _ _ _ (c .before .loop-test .taken) (c .before .before .loop .inv .3) _ (q .3))
+put-references-sub-nones : (t : ℕ) → put-references-lts.Need-sub-nones (put-references-R t) (put-references-at t) put-references.Post put-references-Inv-loop put-references-μ-loop
+put-references-sub-nones t c = search needs
 
-put-references-put-element-requires : (t : ℕ) → put-references-lts.Need-put-element-requires (put-references-R t) (put-references-at t) put-references.Post put-references-Inv-loop put-references-μ-loop
-put-references-put-element-requires t c κs =
-    let q = c .before .before .before .before .before .before .before .before .before .pre .1 in
-    let inv = c .before .before .before .before .loop .inv in
-    (omega (arith, c .before .before .before .before .before .before .before .before .before .pre .0), (inv .0, ((q .1 .0 .0, q .1 .0 .1, q .1 .0 .2), offset-readable _ _ _ _ _ _ _ _ (c .before .before .before .loop-test .taken) (inv .4) _ _ (inv .3) (c .before .offset-in .ensures .0))))
+put-references-nones-requires : (t : ℕ) → put-references-lts.Need-nones-requires (put-references-R t) (put-references-at t) put-references.Post put-references-Inv-loop put-references-μ-loop
+put-references-nones-requires t c κs = (c .before .before .before .before .before .before .before .before .pre .1 .1 .0 .1, runs-inside _ _ _ _ _ (c .before .loop-test .taken) (c .before .before .loop .inv .3) _ (c .before .before .before .before .before .before .before .before .pre .1 .1 .0 .3))
+
+put-references-put-nones-requires : (t : ℕ) → put-references-lts.Need-put-nones-requires (put-references-R t) (put-references-at t) put-references.Post put-references-Inv-loop put-references-μ-loop
+put-references-put-nones-requires t c κs = (c .before .before .before .before .before .loop .inv .0, runs-few _ _ _ _ _ (c .before .before .before .before .loop-test .taken) (c .before .before .before .before .before .loop .inv .3) _ (c .before .before .before .before .before .before .before .before .before .before .before .pre .1 .1 .0 .3) _ (c .before .before .nones .ensures .0) (c .before .before .before .before .before .before .before .before .before .before .before .pre .1 .1 .0 .1 .0) (c .before .before .before .before .before .before .before .before .before .before .before .pre .1 .1 .0 .2))
+
+put-references-mul-at : (t : ℕ) → put-references-lts.Need-mul-at (put-references-R t) (put-references-at t) put-references.Post put-references-Inv-loop put-references-μ-loop
+put-references-mul-at t c = omega (arith, runs-within _ _ _ _ _ (c .before .before .before .before .before .before .before .loop-test .taken) (c .before .before .before .before .before .before .before .before .loop .inv .3) _ (c .before .before .before .before .before .before .before .before .before .before .before .before .before .before .pre .1 .1 .0 .3) _ (c .before .before .before .before .before .nones .ensures .0), c .before .before .before .before .before .before .before .before .before .before .before .before .before .before .pre .1 .1 .0 .2)
 
 put-references-add-at : (t : ℕ) → put-references-lts.Need-add-at (put-references-R t) (put-references-at t) put-references.Post put-references-Inv-loop put-references-μ-loop
-put-references-add-at t c =
-    let q = c .before .before .before .before .before .before .before .before .before .before .before .before .pre .1 .1 .0 in
-    omega (arith, run-inside _ _ _ _ _ (c .before .before .before .before .before .before .loop-test .taken) (c .before .before .before .before .before .before .before .loop .inv .3) _ (q .3), q .2)
+put-references-add-at t c = omega (arith, runs-within _ _ _ _ _ (c .before .before .before .before .before .before .before .loop-test .taken) (c .before .before .before .before .before .before .before .before .loop .inv .3) _ (c .before .before .before .before .before .before .before .before .before .before .before .before .before .before .pre .1 .1 .0 .3) _ (c .before .before .before .before .before .nones .ensures .0), c .before .before .before .before .before .before .before .before .before .before .before .before .before .before .pre .1 .1 .0 .2)
 
 put-references-add-j : (t : ℕ) → put-references-lts.Need-add-j (put-references-R t) (put-references-at t) put-references.Post put-references-Inv-loop put-references-μ-loop
 put-references-add-j t c = search needs
@@ -815,15 +823,56 @@ put-references-loop-less t c = search needs
 
 put-references-loop-again : (t : ℕ) → put-references-lts.Need-loop-again (put-references-R t) (put-references-at t) put-references.Post put-references-Inv-loop put-references-μ-loop
 put-references-loop-again t c =
-    let inv = c .before .before .before .before .before .before .before .loop .inv in
-    let less = c .before .before .before .before .before .before .loop-test .taken in
-    let put = c .before .before .put-element .ensures in (
+    let inv = c .before .before .before .before .before .before .before .before .loop .inv in
+    let less = c .before .before .before .before .before .before .before .loop-test .taken in
+    let z = c .before .before .before .before .before .nones .ensures in
+    let put = c .before .before .put-nones .ensures in (
+      search (room-next, inv .0, put),
+      omega (arith, z .0, less),
+      omega (arith, put .len, inv .2),
+      runs-next _ _ _ _ _ (inv .3),
+      search (held-moved, z .2),
+      nones-rest _ _ _ _ _ _ _ _ _ (z .0) (inv .5),
+      nones-turn _ _ _ _ _ _ _ _ _ (z .0) (inv .5) _ (inv .3) (z .1) _ _ _ _ _ _ _ (inv .6) (inv .0) put,
+    )
+
+put-references-sub-refilled : (t : ℕ) → put-references-lts.Need-sub-refilled (put-references-R t) (put-references-at t) put-references.Post put-references-Inv-loop put-references-μ-loop
+put-references-sub-refilled t c = search needs
+
+put-references-refilled-requires : (t : ℕ) → put-references-lts.Need-refilled-requires (put-references-R t) (put-references-at t) put-references.Post put-references-Inv-loop put-references-μ-loop
+put-references-refilled-requires t c κs = (c .before .before .before .before .before .before .before .before .before .before .pre .1 .1 .0 .1, omega (arith, c .before .before .before .loop-test .taken), runs-inside _ _ _ _ _ (c .before .before .before .loop-test .taken) (c .before .before .before .before .loop .inv .3) _ (c .before .before .before .before .before .before .before .before .before .before .pre .1 .1 .0 .3), c .before .before .before .before .loop .inv .4)
+
+put-references-put-element-requires : (t : ℕ) → put-references-lts.Need-put-element-requires (put-references-R t) (put-references-at t) put-references.Post put-references-Inv-loop put-references-μ-loop
+put-references-put-element-requires t c κs =
+    let q = c .before .before .before .before .before .before .before .before .before .before .before .before .pre .1 in
+    let inv = c .before .before .before .before .before .before .loop .inv in
+    (omega (arith, c .before .before .before .before .before .before .before .before .before .before .before .before .pre .0), (inv .0, ((q .1 .0 .0, q .1 .0 .1, q .1 .0 .2), offset-readable _ _ _ _ _ _ _ _ (c .before .before .before .before .before .loop-test .taken) (inv .5) _ _ (inv .3) (c .before .refilled .ensures .is))))
+
+put-references-behind-requires : (t : ℕ) → put-references-lts.Need-behind-requires (put-references-R t) (put-references-at t) put-references.Post put-references-Inv-loop put-references-μ-loop
+put-references-behind-requires t c κs = c .before .before .before .before .refilled .ensures .some
+
+put-references-add-at-2 : (t : ℕ) → put-references-lts.Need-add-at-2 (put-references-R t) (put-references-at t) put-references.Post put-references-Inv-loop put-references-μ-loop
+put-references-add-at-2 t c = omega (arith, run-inside _ _ _ _ _ (c .before .before .before .before .before .before .before .before .before .loop-test .taken) (c .before .before .before .before .before .before .before .before .before .before .loop .inv .3) _ (c .before .before .before .before .before .before .before .before .before .before .before .before .before .before .before .before .pre .1 .1 .0 .3), c .before .before .before .before .before .before .before .before .before .before .before .before .before .before .before .before .pre .1 .1 .0 .2)
+
+put-references-add-j-2 : (t : ℕ) → put-references-lts.Need-add-j-2 (put-references-R t) (put-references-at t) put-references.Post put-references-Inv-loop put-references-μ-loop
+put-references-add-j-2 t c = record { fits = run-few _ _ _ _ _ (c .before .before .before .before .before .before .before .before .before .loop-test .taken) (c .before .before .before .before .before .before .before .before .before .before .before .before .before .before .before .before .pre .1 .1 .0 .3) (c .before .before .before .before .before .before .before .before .before .before .before .before .before .before .before .before .pre .1 .1 .0 .1 .0) (c .before .before .before .before .before .before .before .before .before .before .before .before .before .before .before .before .pre .1 .1 .0 .2) }
+
+put-references-loop-less-2 : (t : ℕ) → put-references-lts.Need-loop-less-2 (put-references-R t) (put-references-at t) put-references.Post put-references-Inv-loop put-references-μ-loop
+put-references-loop-less-2 t c = search needs
+
+put-references-loop-again-2 : (t : ℕ) → put-references-lts.Need-loop-again-2 (put-references-R t) (put-references-at t) put-references.Post put-references-Inv-loop put-references-μ-loop
+put-references-loop-again-2 t c =
+    let inv = c .before .before .before .before .before .before .before .before .before .before .loop .inv in
+    let less = c .before .before .before .before .before .before .before .before .before .loop-test .taken in
+    let read = c .before .before .before .before .before .refilled .ensures in
+    let put = c .before .before .before .put-element .ensures in (
       search (room-next, inv .0, put),
       omega (arith, less),
       omega (arith, put .len, inv .2),
       run-next _ _ _ _ _ less (inv .3),
-      search (elements-rest, less, inv .4),
-      search (offsets-turn, less, inv .4, inv .3, c .before .before .before .before .offset-in .ensures .0, inv .5, inv .0, put),
+      held-behind _ _ _ _ _ (read .held) (read .some) (c .behind .ensures),
+      search (elements-rest, less, inv .5),
+      search (offsets-turn, less, inv .5, inv .3, read .is, inv .6, inv .0, put),
     )
 
 put-references-same-length-2 : (t : ℕ) → put-references-lts.Need-same-length-2 (put-references-R t) (put-references-at t) put-references.Post put-references-Inv-loop put-references-μ-loop
@@ -1228,15 +1277,26 @@ pub +put-choices+put-content+put-directs+put-element+put-lead+put-list+put-objec
     put-references.Post
     put-references-Inv-loop
     put-references-μ-loop
+    (put-references-nothing-requires t)
     (put-references-loop-holds t)
     (put-references-same-length t)
     (put-references-returns t)
-    (put-references-offset-in-requires t)
-    (put-references-put-element-requires t)
+    (put-references-sub-nones t)
+    (put-references-nones-requires t)
+    (put-references-put-nones-requires t)
+    (put-references-mul-at t)
     (put-references-add-at t)
     (put-references-add-j t)
     (put-references-loop-less t)
     (put-references-loop-again t)
+    (put-references-sub-refilled t)
+    (put-references-refilled-requires t)
+    (put-references-put-element-requires t)
+    (put-references-behind-requires t)
+    (put-references-add-at-2 t)
+    (put-references-add-j-2 t)
+    (put-references-loop-less-2 t)
+    (put-references-loop-again-2 t)
     (put-references-same-length-2 t)
     (put-references-returns-2 t))
     (λ t. put-table-lts.spec (put-table-R t)
