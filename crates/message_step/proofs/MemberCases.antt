@@ -93,16 +93,6 @@ module _ (o : ℕ) (S : Schema) (m : List ℕ) (start n : ℕ) (c : Cursor) (r :
       record { end = omega arith; byte = h .byte; bit = h .bit }
 
   module _ (eq : q ≡ L.placementOf o S r c) (found s : Step) where
-    pub member-stepped : found ≡ T.placedStep o S m start n q r → s ≡ T.structTested S m found
-        → Stepped (T.memberStep o S m start n c r) (L.afterMember o S r c) (c .end) s next
-    unfolding T.memberStep
-    member-stepped e f =
-        record {
-          step-is = f ∙ ap (T.structTested S m) (e ∙ ap (λ (y : Placement). T.placedStep o S m start n y r) eq);
-          next-is = stands .next-is;
-          laid = laid-more;
-        }
-
     pub member-led : found ≡ withoutValue (T.placedStep o S m start n q r) → s ≡ leadOf (T.structTested S m found)
         → Stepped (leadOf (T.memberStep o S m start n c r)) (L.afterMember o S r c) (c .end) s next
     unfolding T.memberStep

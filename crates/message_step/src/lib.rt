@@ -377,30 +377,7 @@ pub struct SteppedMember {
     pub next: Cursor,
 }
 
-// What member r holds, of a table whose fixed part has n bytes from `start`.
-pub fn member_step(
-    b: &[u8],
-    dir: &[u16],
-    m: &[u8],
-    start: usize,
-    n: usize,
-    c: Cursor,
-    r: Member,
-    o: usize,
-) -> SteppedMember
-    requires { ⌜ (Accepted (now b) (now dir)) × (Width o) × (MemberSound (P.parse (now b)) r) × (start + n ≤ length (now m)) × (WithinSize (now m)) ⌝ }
-    requires { ⌜ (c .byte ≤ c .end) × (c .bit ≤ 8) × (c .end < 2 ^ 58) ⌝ }
-    ensures { λ q. ⌜ D.Stepped (T.memberStep o (P.parse (now (b .entry))) (now (m .entry)) start n c r) (L.afterMember o (P.parse (now (b .entry))) r c) (c .end) (q .step) (q .next) ⌝ }
-{
-    let q = message_layout::place_member(b, dir, r, c, o);
-    let p = q.placement;
-    let next = q.next;
-    let found = placed_step(b, dir, m, start, n, p, r, o);
-    let step = struct_tested(b, dir, m, found);
-    SteppedMember { step, next }
-}
-
-// Where member r leads.
+// Where member r leads, of a table whose fixed part has n bytes from `start`.
 pub fn member_lead(
     b: &[u8],
     dir: &[u16],

@@ -4,5 +4,6 @@ pub mod RowCases
 pub mod LoopCases
 pub mod PlaceCases
 pub mod TableCases
+pub mod PlainCases
 pub mod AnswerCases
 pub mod PlacementCases

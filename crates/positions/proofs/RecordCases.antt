@@ -85,11 +85,11 @@ module _ (o : ℕ) (S : Schema) (k a : ℕ) where
       (λ e. pick-holds (λ (f : Flat). flatWidth (structSize S) f ≡ P.widthOf k) (ltb k 9) (Integer true (P.widthOf k)) _ (λ e. refl)
       (λ e. rw (lt-ltb k 11 l) refl)))
 
-  number-width : k < 11 → P.widthOf k ≡ L.width o S (P.kindOf k a)
+  pub number-width : k < 11 → P.widthOf k ≡ L.width o S (P.kindOf k a)
   unfolding L.width P.kindOf
   number-width l = simp (lt-ltb k 13 (omega arith)) (sym (flat-width l))
 
-  enum-width : k ≡ 11 → 1 ≡ L.width o S (P.kindOf k a)
+  pub enum-width : k ≡ 11 → 1 ≡ L.width o S (P.kindOf k a)
   unfolding L.width P.kindOf P.flatOf flatWidth
   enum-width e = rw e refl
 
@@ -101,12 +101,12 @@ module _ (o : ℕ) (S : Schema) (k a : ℕ) where
   unfolding L.width P.kindOf
   union-width e = rw e refl
 
-  object-width : 13 ≤ k → (k ≡ 17 → ⊥) → o ≡ L.width o S (P.kindOf k a)
+  pub object-width : 13 ≤ k → (k ≡ 17 → ⊥) → o ≡ L.width o S (P.kindOf k a)
   unfolding L.width P.kindOf
   object-width l e = simp (le-ltb k 13 l, ne-eqb k 17 e)
 
 module _ (o : ℕ) (b : List ℕ) (at k : ℕ) (ek : k ≡ P.kindAt b at) where
-  at-width : (r : ℕ) → r ≡ L.width o (P.parse b) (P.kindOf k (P.argumentAt b at)) → r ≡ L.width o (P.parse b) (P.elementAt b at)
+  pub at-width : (r : ℕ) → r ≡ L.width o (P.parse b) (P.kindOf k (P.argumentAt b at)) → r ≡ L.width o (P.parse b) (P.elementAt b at)
   unfolding P.elementAt
   at-width r e = e ∙ ap (λ (q : ℕ). L.width o (P.parse b) (P.kindOf q (P.argumentAt b at))) ek
 

@@ -68,7 +68,7 @@ module _ (b : List ℕ) (at k : ℕ) (ek : k ≡ P.kindAt b at) where
   unfolding P.memberAt P.elementAt
   at-bool e = subst (λ (q : ℕ). L.isBool (P.kindOf q (P.argumentAt b at)) ≡ true) ek (kind-bool k (P.argumentAt b at) e)
 
-  at-other : (k ≡ 0 → ⊥) → L.isBool (P.memberAt b at .kind) ≡ false
+  pub at-other : (k ≡ 0 → ⊥) → L.isBool (P.memberAt b at .kind) ≡ false
   unfolding P.memberAt P.elementAt
   at-other n = subst (λ (q : ℕ). L.isBool (P.kindOf q (P.argumentAt b at)) ≡ false) ek (kind-other k (P.argumentAt b at) n)
 
@@ -95,7 +95,7 @@ module _ (o : ℕ) (S : Schema) (r : Member) (c behind : Cursor) (t : Bool) (f :
       simp e (row-same v f 1 (Po.firstBit (L.bitSlot (L.afterFlag r c))) (Po.flagBit r (L.bitSlot c)) 1
       (ev ∙ ap (λ (x : Cursor). Po.firstBit (L.bitSlot x)) behind-is) flag-is refl)
 
-  bytes-is : L.isBool (r .kind) ≡ false → (w : ℕ) → w ≡ L.width o S (r .kind)
+  pub bytes-is : L.isBool (r .kind) ≡ false → (w : ℕ) → w ≡ L.width o S (r .kind)
       → record { value = 8 * behind .end; flag = f; size = 8 * w } ≡ Po.rowOf r (L.placementOf o S r c)
   unfolding Po.rowOf Po.firstBit Po.bitSize L.placementOf L.memberSlot L.slotOf
   bytes-is e w ew =
@@ -106,7 +106,7 @@ module _ (o : ℕ) (S : Schema) (r : Member) (c behind : Cursor) (t : Bool) (f :
   unfolding L.afterMember L.afterValue
   bool-next e next en = simp e (en ∙ ap L.afterBit behind-is)
 
-  bytes-next : L.isBool (r .kind) ≡ false → (w : ℕ) → w ≡ L.width o S (r .kind) → (next : Cursor) → next ≡ L.afterBytes w behind
+  pub bytes-next : L.isBool (r .kind) ≡ false → (w : ℕ) → w ≡ L.width o S (r .kind) → (next : Cursor) → next ≡ L.afterBytes w behind
       → next ≡ L.afterMember o S r c
   unfolding L.afterMember L.afterValue
   bytes-next e w ew next en = simp e (en ∙ ap₂ L.afterBytes ew behind-is)

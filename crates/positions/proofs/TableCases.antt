@@ -19,7 +19,7 @@ four-first : (m : List ℕ) (at : ℕ) (x y : List ℕ) → length x ≡ 4 → s
 four-first m at x y e = stands-append m at x y ∙ ap (λ (k : ℕ). stands m at x && stands m (at + k) y) e
 
 module _ (m : List ℕ) (bytes : (i : ℕ) → getD m i 0 < 256) (at : ℕ) (x : Row) (small : RowSmall x) where
-  row-tests : stands m at (Po.rowBytes x) ≡ (eqb (le m at 4) (x .value) && (eqb (le m (at + 4) 4) (x .flag) && eqb (le m (at + 8) 4) (x .size)))
+  pub row-tests : stands m at (Po.rowBytes x) ≡ (eqb (le m at 4) (x .value) && (eqb (le m (at + 4) 4) (x .flag) && eqb (le m (at + 8) 4) (x .size)))
   unfolding Po.rowBytes leBytes
   row-tests =
       let e : at + 4 + 4 ≡ at + 8 = omega arith in

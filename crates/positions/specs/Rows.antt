@@ -1,9 +1,9 @@
 -- What the contracts say of rows, and of the tables that are made of them.
-use Prim.Native.Nat.{ℕ, _+_, _≤_}
+use Prim.Native.Nat.{ℕ, _+_, _*_, _≤_}
 use mathlib.Core.Path.{_≡_}
 use mathlib.Core.Bool.{Bool, true}
 use mathlib.Core.List.{List, flatMap}
-use lib.ListN.{drop}
+use lib.ListN.{length, drop}
 use Rattle.coding.specs.Schema.{Schema, tableOf}
 use Rattle.coding.specs.Packed.{parse}
 use Rattle.coding.specs.Lawful.{lawful}
@@ -13,6 +13,7 @@ use Rattle.coding.specs.declared.Member.{Member}
 use Rattle.coding.specs.declared.Cursor.{Cursor}
 use Rattle.coding.specs.declared.Row.{Row}
 use Rattle.laws.specs.RowBounds.{RowSmall}
+use Rattle.laws.specs.SameLists.{stands}
 use Rattle.message_layout.specs.Bounds.{Laid}
 use Rattle.schema.specs.Directory.{AcceptedUnder}
 
@@ -34,6 +35,13 @@ tableBytes o b t = flatMap rowBytes (tableRows o (parse b) (tableOf (parse b) t)
 -- of those, the bytes from member j on, which stands at the cursor c
 abbrev pub restBytes : ℕ → List ℕ → ℕ → ℕ → Cursor → List ℕ
 restBytes o b t j c = flatMap rowBytes (memberRows o (parse b) c (drop j (tableOf (parse b) t .members)))
+
+-- table t has its rows from byte `at` of m on from member i, at the cursor c, just if it has them from member j, at the cursor d
+pub record PastRows (o : ℕ) (b m : List ℕ) (t at i : ℕ) (c : Cursor) (j : ℕ) (d : Cursor) : Type 0 where
+  pub forth : i ≤ j
+  pub inside : j ≤ length (tableOf (parse b) t .members)
+  pub laid : Laid (4097 * j) d
+  pub same : stands m (at + 12 * i) (restBytes o b t i c) ≡ stands m (at + 12 * j) (restBytes o b t j d)
 
 -- the bytes of the rows of all tables from t on
 abbrev pub tablesBytes : ℕ → List ℕ → ℕ → List ℕ

@@ -21,13 +21,16 @@ ghost use Rattle.message_layout.specs.Bounds.{Laid};
 ghost use Rattle.schema.specs.Directory.{Accepted, AcceptedUnder};
 ghost use Rattle.wire.specs.Sizes.{Width};
 ghost use Rattle.positions.specs.Placements as Pl;
-ghost use Rattle.positions.specs.Rows.{Low, Next, tableBytes, TableJudged};
+ghost use Rattle.positions.specs.Rows.{Low, Next, tableBytes, PastRows, TableJudged};
+ghost use Rattle.positions.specs.Plain.{HoldsWidths, Plain, plainRow};
 
 // The bytes of a row: three U32s.
 const ROW: usize = 12;
 
-// The flag's bit of a member that has no flag.
+// The flag's bit of a member that has no flag, and the same in the second half of eight bytes.
 const NO_FLAG: usize = 4294967295;
+
+const NO_FLAG_ABOVE: usize = 0xFFFF_FFFF_0000_0000;
 
 // ---- a member by its record
 // Whether a flag stands before the value: the record says optional, and is of no float.
@@ -245,6 +248,80 @@ fn row_is(rows: &[u8], at: usize, x: Row) -> bool
     wire::u32_in(rows, at + 8) as usize == x.size
 }
 
+// ---- plain members: without a flag, and no bool; most members are
+// The bytes of kinds 0 to 15 in four bits each, from the lowest on: of an integer, a float, an enum, a text, bytes and a list, whose width
+// the record's first byte says. The others have 0.
+const PLAIN_48: u64 = 0x6660_1848_4218_4210;
+
+const PLAIN_32: u64 = 0x4440_1848_4218_4210;
+
+// Those of the coding.
+fn plain_widths(o: usize) -> u64
+    requires { ⌜ Width o ⌝ }
+    ensures { λ r. ⌜ HoldsWidths o r ⌝ }
+{
+    if o == wire::U48 {
+        return PLAIN_48;
+    }
+    PLAIN_32
+}
+
+// The bits of a record's first byte that are 0 in a kind below 16 that is not optional.
+const NOT_PLAIN: usize = 132;
+
+// The bytes of the member whose record stands at `at`, if it is plain; 0 if that is not seen from the first byte.
+fn plain_at(b: &[u8], at: usize, o: usize) -> usize
+    requires { ⌜ (Width o) × (at + 1 < length (now b)) ⌝ }
+    ensures { λ r. ⌜ (0 < r → Plain o (P.parse (now (b .entry))) (P.memberAt (now (b .entry)) at) r) × (r < 16) ⌝ }
+{
+    let h = wire::index(wire::byte_in(b, at));
+    if h & NOT_PLAIN != 0 {
+        return 0;
+    }
+    (plain_widths(o) >> (4 * (h >> 3)) & 15) as usize
+}
+
+// Whether the row of a plain member of w bytes that stands behind `end` bytes stands from byte `at` on: two numbers at once.
+fn plain_row_is(rows: &[u8], at: usize, end: usize, w: usize) -> bool
+    requires { ⌜ (at < 2 ^ 61) × (at + 12 ≤ length (now rows)) × (end ≤ 1048832) × (w < 16) ⌝ }
+    ensures { λ r. ⌜ r ≡ stands (now (rows .entry)) at (Po.rowBytes (plainRow end w)) ⌝ }
+{
+    if wire::u64_in(rows, at) as usize != NO_FLAG_ABOVE + 8 * end {
+        return false;
+    }
+    wire::u32_in(rows, at + 8) as usize == 8 * w
+}
+
+// A member by its number, and the cursor at it.
+struct Mark {
+    j: usize,
+    c: Cursor,
+}
+
+// Goes on from a member of table t, whose rows begin at byte `at`, over plain members whose rows stand there.
+fn past_plain(b: &[u8], dir: &[u16], rows: &[u8], t: usize, at: usize, from: Mark, o: usize) -> Mark
+    requires { ⌜ (Accepted (now b) (now dir)) × (Width o) × (t < P.tableCount (now b)) × (at < 2 ^ 60) × (at + 12 * length (Sc.tableOf (P.parse (now b)) t .members) ≤ length (now rows)) ⌝ }
+    requires { ⌜ (from .j ≤ length (Sc.tableOf (P.parse (now b)) t .members)) × Laid (4097 * from .j) (from .c) ⌝ }
+    ensures { λ r. ⌜ PastRows o (now (b .entry)) (now (rows .entry)) t at (from .j) (from .c) (r .j) (r .c) ⌝ }
+{
+    let n = schema::member_count(b, dir, t);
+    let mut c = from.c;
+    let mut j = from.j;
+    while j < n {
+        let w = plain_at(b, schema::record_of(b, dir, t, j), o);
+        if w == 0 {
+            return Mark { j, c };
+        }
+        if !plain_row_is(rows, at + ROW * j, c.end, w) {
+            return Mark { j, c };
+        }
+        c = message_layout::after_bytes(c, w);
+        j += 1;
+    }
+    Mark { j, c }
+}
+
+// ---- all members
 // Whether the rows of table t stand from byte `at` on.
 fn table_is(b: &[u8], dir: &[u16], rows: &[u8], t: usize, at: usize, o: usize) -> bool
     requires { ⌜ (Accepted (now b) (now dir)) × (Width o) × (t < P.tableCount (now b)) × (at < 2 ^ 60) × (at + 12 * length (Sc.tableOf (P.parse (now b)) t .members) ≤ length (now rows)) ⌝ }
@@ -252,16 +329,18 @@ fn table_is(b: &[u8], dir: &[u16], rows: &[u8], t: usize, at: usize, o: usize) -
 {
     let n = schema::member_count(b, dir, t);
     let mut c = message_layout::begin();
-    let mut pos = at;
     let mut j: usize = 0;
     while j < n {
-        let s = next_row(b, dir, t, j, c, o);
-        if !row_is(rows, pos, s.row) {
+        let p = past_plain(b, dir, rows, t, at, Mark { j, c }, o);
+        if n <= p.j {
+            return true;
+        }
+        let s = next_row(b, dir, t, p.j, p.c, o);
+        if !row_is(rows, at + ROW * p.j, s.row) {
             return false;
         }
         c = s.next;
-        pos += ROW;
-        j += 1;
+        j = p.j + 1;
     }
     true
 }
