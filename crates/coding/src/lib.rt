@@ -185,3 +185,12 @@ pub struct Span {
     pub start: usize,
     pub length: usize,
 }
+
+// Comparing two messages: 0, 14, or the number of the first side that is refused; the verdict of each side; and how many differences
+// were written.
+pub struct CompareAnswer {
+    pub number: u8,
+    pub left: Verdict,
+    pub right: Verdict,
+    pub count: usize,
+}

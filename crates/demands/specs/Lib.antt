@@ -98,3 +98,14 @@ pub mod OnlyText
 pub mod NamesOfText
 pub mod Positions
 pub mod PositionCases
+pub mod Differences
+pub mod Listed
+pub mod ListedOrder
+pub mod Unlisted
+pub mod ReachedParts
+pub mod DifferingParts
+pub mod AlikeParts
+pub mod Compared
+pub mod ComparedFields
+pub mod ComparedBytes
+pub mod CompareCases

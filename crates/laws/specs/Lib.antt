@@ -23,3 +23,4 @@ pub mod PositionRows
 pub mod RowBounds
 pub mod RowReads
 pub mod LentTables
+pub mod EntryBytes

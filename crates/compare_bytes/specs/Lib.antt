@@ -1,0 +1,2 @@
+-- Bytes of two messages, side by side.
+pub mod Ranges

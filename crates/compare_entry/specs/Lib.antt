@@ -1,0 +1,3 @@
+-- Entries of a comparison.
+pub mod Entries
+pub mod EntryLaws
