@@ -20,5 +20,8 @@ pub mod Cells
 pub mod Message
 pub mod Field
 pub mod Positions
+pub mod Trace
+pub mod Index
+pub mod Closing
 pub mod Append
 pub mod Moving

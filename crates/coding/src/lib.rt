@@ -99,6 +99,20 @@ pub enum Opened {
     Content(usize, usize),
 }
 
+// The way an object is held: by an offset, with the place of the slot that it stands in; in place; as an element of a direct list.
+pub enum Held {
+    ByOffset(usize),
+    InPlace,
+    Element,
+}
+
+// An arrival of the walk: the object, where it stands, and the way it is held.
+pub struct Event {
+    pub object: Object,
+    pub place: Place,
+    pub held: Held,
+}
+
 // What may be spent: visits, and bytes of content.
 pub struct Budget {
     pub visits: u32,
@@ -146,9 +160,16 @@ pub struct Verdict {
     pub content: u64,
 }
 
-// Reading to a sheet: the verdict, or 14 with what it spent, and the length of what was written.
+// Reading to a sheet and making an index: the verdict, or 14 with what it spent, and the length of what was written.
 pub struct ReadAnswer {
     pub verdict: Verdict,
+    pub length: usize,
+}
+
+// Closing up: the verdict, or 18, 19 or 14 with what it spent, and the lengths of both outputs, the moved places and the message.
+pub struct CloseAnswer {
+    pub verdict: Verdict,
+    pub moved: usize,
     pub length: usize,
 }
 

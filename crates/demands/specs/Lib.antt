@@ -1,6 +1,7 @@
 -- The theorems. A reader's way in: Counter, OlderCoding, DirectLists, Traps, FieldCases, MemberCases, Allowances, Members, Sheets, Reached,
 -- RoundTrip, Appending, NewerAgrees, BiggerAllowance, ThreeSchemas, CutSheets, ThreeCases, Fields, Texts, SheetText, ListReader, Utf8,
--- Utf8Cases, OnlyText, NamesOfText, UnionsInPlace, Moved, MovedCases, Positions, PositionCases; the other modules are their lemmas.
+-- Utf8Cases, OnlyText, NamesOfText, UnionsInPlace, Moved, MovedCases, Positions, PositionCases, Indexed,
+-- IndexCases, ClosingCases, ClosedShorter, ClosedSharing; the other modules are their lemmas.
 pub mod Counter
 pub mod Traps
 pub mod OlderCoding
@@ -98,3 +99,13 @@ pub mod OnlyText
 pub mod NamesOfText
 pub mod Positions
 pub mod PositionCases
+pub mod IndexOrder
+pub mod Lookup
+pub mod Opens
+pub mod Events
+pub mod Indexed
+pub mod IndexCases
+pub mod ClosingCases
+pub mod PlacesBehind
+pub mod ClosedShorter
+pub mod ClosedSharing

@@ -2,6 +2,7 @@
 pub mod Structs
 pub mod Sound
 pub mod All
+pub mod Among
 pub mod Bits
 pub mod BitLists
 pub mod Lists
