@@ -154,6 +154,23 @@ uint32_t scalgo_judge(uint32_t coding, const uint8_t *schema, size_t schema_len,
                       const uint8_t *message, size_t message_len,
                       uint32_t visits, uint64_t content, scalgo_verdict *verdict);
 
+/* Judges many messages that stand one behind the other in a buffer, by one schema, which is judged once
+ * with its positions; answers how many were judged: all, or as many as there is room for.
+ *
+ * positions, visits, content: as of scalgo_judge, the allowances for each message anew.
+ * messages: the buffer. Message i is its bytes from where the one before it ends, the first from 0, up
+ *         to ends[i]; one that ends before it starts has no bytes, and none has bytes behind the buffer.
+ * ends, count: where each message ends; count is how many there are.
+ * verdicts, numbers: for each message the five numbers of its scalgo_verdict, in order, as scalgo_judge
+ *         gives them; numbers counts all of them, five for each verdict. Those behind the last verdict
+ *         keep what they held.
+ */
+uint64_t scalgo_judge_many(uint32_t coding, const uint8_t *schema, size_t schema_len,
+                           const uint8_t *positions, size_t positions_len,
+                           const uint8_t *messages, size_t messages_len,
+                           const uint64_t *ends, size_t count,
+                           uint32_t visits, uint64_t content, uint64_t *verdicts, size_t numbers);
+
 /* Reads one field and answers its case.
  *
  * positions: as of scalgo_judge.

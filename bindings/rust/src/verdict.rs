@@ -85,3 +85,18 @@ impl From<Stored> for Verdict {
         }
     }
 }
+
+impl From<[u64; 5]> for Verdict {
+    /// Of the numbers that [`judge_many`](crate::Schema::judge_many) writes: number, place, member,
+    /// visits and content.
+    fn from([number, place, member, visits, content]: [u64; 5]) -> Verdict {
+        let stored = Stored {
+            number,
+            place,
+            member,
+            visits,
+            content,
+        };
+        stored.into()
+    }
+}

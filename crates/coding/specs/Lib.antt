@@ -20,5 +20,6 @@ pub mod Cells
 pub mod Message
 pub mod Field
 pub mod Positions
+pub mod Batch
 pub mod Append
 pub mod Moving

@@ -3,6 +3,7 @@ use mathlib.Core.Path.{_≡_, ap, _∙_}
 use mathlib.Core.List.{List}
 use Prim.Native.Nat.{ℕ}
 use Rattle.coding.specs.Walk.{verdict}
+use Rattle.coding.specs.Batch.{batchOver}
 use Rattle.coding.specs.Field.{field, fieldSpan, readerCount, readerOver}
 use Rattle.coding.specs.Positions.{positionsAnswer, positionsOut, withTable}
 use Rattle.coding.specs.Message.{readAnswer, readOut, writeAnswer, writeOut}
@@ -18,6 +19,11 @@ module _ (o w : ℕ) (e : o ≡ w) (b : List ℕ) where
   module _ (t m : List ℕ) where
     pub judge-by : (g : Budget) (r : Verdict) → r ≡ verdict o (withTable o b t) m g → r ≡ verdict w (withTable w b t) m g
     judge-by g r h = h ∙ ap (λ (k : ℕ). verdict k (withTable k b t) m g) e
+
+    -- many messages in a buffer
+    pub batch-by : (ends : List ℕ) (g : Budget) (out r : List ℕ) → r ≡ batchOver o (withTable o b t) m ends g out
+        → r ≡ batchOver w (withTable w b t) m ends g out
+    batch-by ends g out r h = h ∙ ap (λ (k : ℕ). batchOver k (withTable k b t) m ends g out) e
 
     pub field-by : (p : List ℕ) (r : Answer) → r ≡ field o (withTable o b t) m p → r ≡ field w (withTable w b t) m p
     field-by p r h = h ∙ ap (λ (k : ℕ). field k (withTable k b t) m p) e

@@ -1,15 +1,10 @@
--- A verdict as the C interface stores it, and the schema that a reader goes by.
+-- The schema that a reader goes by.
 use Prim.Native.Nat.{ℕ}
-use mathlib.Core.List.{List, [], _∷_}
+use mathlib.Core.List.{List}
 use denote.Ref.{RefT}
 use denote.Triple.Both.{Both}
 use Rattle.coding.specs.Bytes.{widthOf}
 use Rattle.coding.specs.Positions.{withTable}
-use Rattle.coding.specs.declared.Verdict.{Verdict}
-
--- number, place, member, visits and content, in this order
-unfoldable pub verdictNumbers : Verdict → List ℕ
-verdictNumbers v = v .number ∷ v .place ∷ v .member ∷ v .visits ∷ v .content ∷ []
 
 -- 02, K10: the schema that a reader goes by, of the parameters `schema` and `positions` under a coding
 abbrev pub lent : {Y Z : Type 0} → ℕ → Both (RefT (List ℕ)) Y → Both (RefT (List ℕ)) Z → List ℕ

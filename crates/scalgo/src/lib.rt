@@ -5,6 +5,8 @@ use coding::Verdict;
 ghost use mathlib.Core.Path.{_≡_};
 ghost use Prim.Native.Nat.{_+_, _≤_};
 ghost use lib.ListN as N;
+ghost use Rattle.coding.specs.Batch as Ba;
+ghost use Rattle.coding.specs.Batch.{verdictNumbers};
 ghost use Rattle.coding.specs.Bytes as B;
 ghost use Rattle.coding.specs.Field as F;
 ghost use Rattle.coding.specs.Lists.{pick};
@@ -12,7 +14,7 @@ ghost use Rattle.coding.specs.Message as M;
 ghost use Rattle.coding.specs.Moving as Mv;
 ghost use Rattle.coding.specs.Positions as Po;
 ghost use Rattle.coding.specs.Walk as W;
-ghost use Rattle.scalgo.specs.Numbers.{verdictNumbers, lent};
+ghost use Rattle.scalgo.specs.Numbers.{lent};
 
 // Stores a verdict's number, place, member, visits and content.
 fn store(v: Verdict, to: &mut [u64; 5])
@@ -63,6 +65,27 @@ pub extern "C" fn scalgo_judge(
     let v = judge::judge(schema, positions, message, Budget { visits, content }, o);
     store(v, verdict);
     v.number as u32
+}
+
+// Judges many messages that stand one behind the other in a buffer, by where each of them ends, each within two allowances of its own: stores
+// the five numbers of each verdict, as many as there is room for, and answers how many.
+#[no_mangle]
+pub extern "C" fn scalgo_judge_many(
+    coding: u32,
+    schema: &[u8],
+    positions: &[u8],
+    messages: &[u8],
+    ends: &[u64],
+    visits: u32,
+    content: u64,
+    verdicts: &mut [u64],
+) -> u64
+    ensures { λ r. ⌜ r ≡ Ba.batchCount (now (ends .entry)) (now (verdicts .entry)) ⌝ }
+    ensures { λ _. ⌜ now (verdicts .exit) ≡ Ba.batchOver (B.widthOf coding) (lent coding schema positions) (now (messages .entry)) (now (ends .entry)) (W.allowing visits content) (now (verdicts .entry)) ⌝ }
+{
+    let o = wire::width_of(coding);
+    let budget = Budget { visits, content };
+    judge_many::judge_many(schema, positions, messages, ends, budget, verdicts, o) as u64
 }
 
 // One field's answer at a path: answers its case, and stores the case's three numbers.

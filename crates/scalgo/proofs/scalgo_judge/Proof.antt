@@ -1,7 +1,7 @@
 -- `scalgo::scalgo_judge` meets its contract.
 use mathlib.Core.Path.{ap, _∙_}
 use Rattle.coding.specs.declared.Verdict.{Verdict}
-use Rattle.scalgo.specs.Numbers.{verdictNumbers}
+use Rattle.coding.specs.Batch.{verdictNumbers}
 use Rattle.scalgo.proofs.Codings.{judge-by}
 use borrow.Author.Needs.{needs}
 use Rattle.scalgo.proofs.scalgo_judge.Statement.{statement}

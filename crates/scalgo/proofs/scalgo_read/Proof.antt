@@ -1,7 +1,7 @@
 -- `scalgo::scalgo_read` meets its contract.
 use mathlib.Core.Path.{ap, _∙_}
 use Rattle.coding.specs.declared.ReadAnswer.{ReadAnswer}
-use Rattle.scalgo.specs.Numbers.{verdictNumbers}
+use Rattle.coding.specs.Batch.{verdictNumbers}
 use Rattle.scalgo.proofs.Codings.{read-by, read-out-by}
 use borrow.Author.Needs.{needs}
 use Rattle.scalgo.proofs.scalgo_read.Statement.{statement}

@@ -1,7 +1,7 @@
 -- `scalgo::store` meets its contract.
 use mathlib.Core.Path.{refl}
 use borrow.Author.Needs.{needs}
-use Rattle.scalgo.specs.Numbers.{verdictNumbers}
+use Rattle.coding.specs.Batch.{verdictNumbers}
 use Rattle.scalgo.proofs.store.Statement.{statement}
 use Rattle.scalgo.proofs.store.Tie as tie
 

@@ -1,0 +1,2 @@
+-- Many messages by one schema.
+pub mod Left
