@@ -125,37 +125,32 @@ where
     }
 }
 
+/// Whether some entry below the root is so, by its holder, its record and its value.
+fn some_entry<F>(schema: &Schema, root: &Value, is: F) -> bool
+where
+    F: Fn(Holder, &Record, &Value) -> bool,
+{
+    let mut found = false;
+    let mut see = |holder: Holder, record: &Record, value: &mut Value| {
+        found |= is(holder, record, value);
+    };
+    let record = Record::plain(TABLE, schema.root);
+    visit(schema, &record, &mut root.clone(), &mut see);
+    found
+}
+
 /// Whether a value has a direct list with an element.
 pub fn has_direct_elements(schema: &Schema, root: &Value) -> bool {
-    let mut found = false;
-    let record = Record::plain(TABLE, schema.root);
-    visit(
-        schema,
-        &record,
-        &mut root.clone(),
-        &mut |_, record, value| {
-            let some = matches!(value, Value::List(parts) if !parts.is_empty());
-            found |= record.kind == DIRECT && some;
-        },
-    );
-    found
+    some_entry(schema, root, |_, record, value| {
+        record.kind == DIRECT && matches!(value, Value::List(parts) if !parts.is_empty())
+    })
 }
 
 /// Whether every text of a value is text.
 pub fn texts_are_text(schema: &Schema, root: &Value) -> bool {
-    let mut fine = true;
-    let record = Record::plain(TABLE, schema.root);
-    visit(
-        schema,
-        &record,
-        &mut root.clone(),
-        &mut |_, record, value| {
-            if let (TEXT, Value::Blob(bytes)) = (record.kind, value) {
-                fine &= is_text(bytes);
-            }
-        },
-    );
-    fine
+    !some_entry(schema, root, |_, record, value| {
+        record.kind == TEXT && matches!(value, Value::Blob(bytes) if !is_text(bytes))
+    })
 }
 
 /// Whether the entry can stand in a message to be written.
@@ -180,17 +175,9 @@ fn entry_writable(schema: &Schema, holder: Holder, record: &Record, value: &Valu
 
 /// Whether a value has a union that is present in place.
 pub fn has_union_in_place(schema: &Schema, root: &Value) -> bool {
-    let mut found = false;
-    let record = Record::plain(TABLE, schema.root);
-    visit(
-        schema,
-        &record,
-        &mut root.clone(),
-        &mut |_, record, value| {
-            found |= record.in_place && matches!(value, Value::Union(..));
-        },
-    );
-    found
+    some_entry(schema, root, |_, record, value| {
+        record.in_place && matches!(value, Value::Union(..))
+    })
 }
 
 /// Whether a lawful value can be written: "From now the writer refuses a present one
@@ -202,15 +189,7 @@ pub fn writable(schema: &Schema, root: &Value) -> bool {
 
 /// Whether a lawful value could be written while unions in place were.
 pub fn was_writable(schema: &Schema, root: &Value) -> bool {
-    let mut fine = true;
-    let record = Record::plain(TABLE, schema.root);
-    visit(
-        schema,
-        &record,
-        &mut root.clone(),
-        &mut |holder, record, value| {
-            fine &= entry_writable(schema, holder, record, value);
-        },
-    );
-    fine
+    !some_entry(schema, root, |holder, record, value| {
+        !entry_writable(schema, holder, record, value)
+    })
 }
