@@ -1,5 +1,7 @@
 // The sheet's bit cursor: numbers and whole bytes at any bit position of a list of bytes, most significant bit first. A
 // position counts bits from the highest bit of the first byte.
+#![tactic(auto)]
+
 ghost use Rattle.std.specs.Prelude.{◌≡◌, ◌++◌, ◌+◌, ◌-◌, ◌*◌, ◌/◌, ◌%◌, ◌^◌, ◌≤◌, ◌<◌, length, take, drop, get_or, set};
 ghost use Rattle.coding.specs.Bits.{bits_of, bits, value, pack};
 ghost use Rattle.coding.specs.Sheet.{blob_bits};
@@ -97,7 +99,7 @@ pub fn get(s: &[u8], pos: usize, width: usize) -> u64
 
 // What is taken at the cursor: whether the bits are left, their number or 0, and where the cursor goes on (it stays where
 // they are not left).
-#[derive(Drop)]
+#[derive(Clone, Copy)]
 pub struct Number {
     pub whole: bool,
     pub value: u64,
@@ -169,7 +171,7 @@ pub fn get_bytes(s: &[u8], pos: usize, dst: &mut [u8])
 }
 
 // What is taken at the cursor: whether the bytes are left, and where the cursor goes on.
-#[derive(Drop)]
+#[derive(Clone, Copy)]
 pub struct Bytes {
     pub whole: bool,
     pub next: usize,

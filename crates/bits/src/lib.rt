@@ -1,4 +1,6 @@
 // Numbers by their bits: masks, fields replaced, and how far a run of bits goes in a byte.
+#![tactic(auto)]
+
 ghost use Rattle.std.specs.Prelude.{◌≡◌, ◌+◌, ◌-◌, ◌*◌, ◌/◌, ◌%◌, ◌^◌, ◌≤◌, ◌<◌};
 ghost use Rattle.bits.specs.Chunk.{Chunk, merged};
 ghost use Rattle.bits.specs.Reversed.{digit, reversed};

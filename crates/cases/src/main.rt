@@ -2,6 +2,8 @@
 // the length of its message and its budget, four bytes each, the lowest first, and then the bytes of both. Each case
 // has the largest content allowance, and the program prints its number, place and visits on a line. A case that the file does not
 // hold whole, or with a length over 64 KiB, ends the run.
+#![tactic(auto)]
+
 ghost use Rattle.std.specs.Prelude.{◌≡◌};
 ghost use Rattle.coding.specs.Walk as W;
 ghost use Rattle.io.specs.Counts.{IsPrefixLen};

@@ -1,10 +1,11 @@
 // The types that the definitions in specs/ and the code of every crate share. No function stands here.
+#![tactic(auto)]
 
 // ---- the schema
 
 // What leads to no object. An integer has its sign and its bytes, a float its bytes, an enum the number of its values, a
 // struct its index.
-#[derive(Drop)]
+#[derive(Clone, Copy)]
 pub enum Flat {
     Boolean,
     Integer(bool, u8),
@@ -14,7 +15,7 @@ pub enum Flat {
 }
 
 // What a reference leads to. A list and a table have their index, a direct list has that of its elements' table.
-#[derive(Drop)]
+#[derive(Clone, Copy)]
 pub enum Object {
     Text,
     Bytes,
@@ -24,14 +25,14 @@ pub enum Object {
 }
 
 // What a table member or a list element is. A union has its index.
-#[derive(Drop)]
+#[derive(Clone, Copy)]
 pub enum Kind {
     OfFlat(Flat),
     OfObject(Object),
     OfUnion(u8),
 }
 
-#[derive(Drop)]
+#[derive(Clone, Copy)]
 pub struct Member {
     pub kind: Kind,
     pub optional: bool,
@@ -39,7 +40,7 @@ pub struct Member {
 }
 
 // Where a record of the packed schema stands: in the struct of an index, in a list, in a union, in a table.
-#[derive(Drop)]
+#[derive(Clone, Copy)]
 pub enum Role {
     InStruct(usize),
     InList,
@@ -50,7 +51,7 @@ pub enum Role {
 // ---- the fixed part of a table
 
 // The layout cursor: the bytes laid out so far, the last bool byte and its next free bit (8: none is free).
-#[derive(Drop)]
+#[derive(Clone, Copy)]
 pub struct Cursor {
     pub end: usize,
     pub byte: usize,
@@ -58,7 +59,7 @@ pub struct Cursor {
 }
 
 // Where a value stands in its fixed part: its first byte, its bit there (of a bool), and its bytes.
-#[derive(Drop)]
+#[derive(Clone, Copy)]
 pub struct Slot {
     pub at: usize,
     pub bit: usize,
@@ -66,7 +67,7 @@ pub struct Slot {
 }
 
 // Where a member stands in its fixed part: its value's slot, and its flag's, which counts only where the member has one.
-#[derive(Drop)]
+#[derive(Clone, Copy)]
 pub struct Placement {
     pub value: Slot,
     pub flag: Slot,
@@ -74,7 +75,7 @@ pub struct Placement {
 
 // A member's row in the table of positions: the first bit of its value in the fixed part, that of its flag (4294967295 where it
 // has none), and its size in bits.
-#[derive(Drop)]
+#[derive(Clone, Copy)]
 pub struct Row {
     pub value: usize,
     pub flag: usize,
@@ -85,7 +86,7 @@ pub struct Row {
 
 // Where an object stands: its offset; or, in place, where its content starts and the length that its holder gives. An element of a
 // direct list stands in place in the list.
-#[derive(Drop)]
+#[derive(Clone, Copy)]
 pub enum Place {
     ByOffset(usize),
     InPlace(usize, usize),
@@ -93,7 +94,7 @@ pub enum Place {
 
 // What stands at a member or an element: a refusal's number; no value; a value's bits; an unknown enum or choice; a
 // struct with its index and place; an object; a union's choice and its object.
-#[derive(Drop)]
+#[derive(Clone, Copy)]
 pub enum Step {
     Refused(u8),
     Absent,
@@ -105,35 +106,35 @@ pub enum Step {
 }
 
 // What an arrival finds: a refusal's number; or where the content starts, and its length.
-#[derive(Drop)]
+#[derive(Clone, Copy)]
 pub enum Opened {
     Refused(u8),
     Content(usize, usize),
 }
 
 // What may be spent: visits, and bytes of content.
-#[derive(Drop)]
+#[derive(Clone, Copy)]
 pub struct Budget {
     pub visits: u32,
     pub content: u64,
 }
 
 // What the walk has spent so far.
-#[derive(Drop)]
+#[derive(Clone, Copy)]
 pub struct Spent {
     pub visits: u32,
     pub content: u64,
 }
 
 // Its number and place, and the number in its holder of the member or element that it is about; 4294967295 where it is about none.
-#[derive(Drop)]
+#[derive(Clone, Copy)]
 pub struct Refusal {
     pub number: u8,
     pub place: usize,
     pub member: u32,
 }
 
-#[derive(Drop)]
+#[derive(Clone, Copy)]
 pub enum Walked {
     Going(Spent),
     Refused(Refusal, Spent),
@@ -142,7 +143,7 @@ pub enum Walked {
 // What a path has come to: a refusal; no value; an unknown enum or choice; a value of a kind; a struct with its index and
 // place; an object with its place, where its content starts, its length, and how many objects of depth are left below it.
 // Value and Struct end with the place of the last object judged.
-#[derive(Drop)]
+#[derive(Clone, Copy)]
 pub enum Found {
     Refused(Refusal),
     Absent,
@@ -155,7 +156,7 @@ pub enum Found {
 // ---- the answers
 
 // The member is a refusal's; 4294967295 where there is none.
-#[derive(Drop)]
+#[derive(Clone, Copy)]
 pub struct Verdict {
     pub number: u8,
     pub place: usize,
@@ -165,14 +166,14 @@ pub struct Verdict {
 }
 
 // Reading to a sheet: the verdict, or 14 with what it spent, and the length of what was written.
-#[derive(Drop)]
+#[derive(Clone, Copy)]
 pub struct ReadAnswer {
     pub verdict: Verdict,
     pub length: usize,
 }
 
 // Writing a message: 0, 1, 11, 12, 13 or 14, and the length of what was written. Making the table of positions: 0, 1 or 14 of these.
-#[derive(Drop)]
+#[derive(Clone, Copy)]
 pub struct WriteAnswer {
     pub number: u8,
     pub length: usize,
@@ -180,7 +181,7 @@ pub struct WriteAnswer {
 
 // One field: a boolean; a number's bits, its width in bits and whether it has a sign; a float's bits and its width; an
 // object's record kind (13 to 16, 18), place and length; a struct's place; absent; unknown with its number; a refusal.
-#[derive(Drop)]
+#[derive(Clone, Copy)]
 pub enum Answer {
     Boolean(bool),
     Number(u64, u8, bool),
@@ -193,7 +194,7 @@ pub enum Answer {
 }
 
 // An answer as a case number and three numbers; what a case does not use is 0.
-#[derive(Drop)]
+#[derive(Clone, Copy)]
 pub struct Case {
     pub case: u32,
     pub a: u64,
@@ -202,7 +203,7 @@ pub struct Case {
 }
 
 // Where a text or bytes stand in the message: whether there is one, where it starts, and its length.
-#[derive(Drop)]
+#[derive(Clone, Copy)]
 pub struct Span {
     pub there: bool,
     pub start: usize,

@@ -1,1 +1,2 @@
 // The theorems stand in specs/. No function.
+#![tactic(auto)]

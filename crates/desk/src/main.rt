@@ -1,6 +1,8 @@
 // The desk program: judges message.bin by schema.bin, both in the folder it is run in, under the coding of 48 bits, with a budget of
 // 100000 visits and the largest content allowance, and prints number, place and visits. A file that cannot be read or is over 64 KiB
 // counts as one that is not lawful: 1 or 2.
+#![tactic(auto)]
+
 ghost use Rattle.std.specs.Prelude.{◌≡◌};
 ghost use Rattle.coding.specs.Walk as W;
 ghost use Rattle.io.specs.Counts.{IsPrefixLen};

@@ -1,4 +1,6 @@
 // An arrival at an object of the message, and what the step of a part of an object finds.
+#![tactic(auto)]
+
 ghost use Rattle.std.specs.Prelude.{◌≡◌};
 ghost use Rattle.coding.specs.Field as F;
 ghost use Rattle.coding.specs.Packed as P;
@@ -14,7 +16,7 @@ use coding::{Found, Kind, Object, Opened, Place, Refusal, Step};
 
 // The content of an object that a path has come to: the object's place, where its content starts, its length, and how many
 // objects of depth are left below it.
-#[derive(Drop)]
+#[derive(Clone, Copy)]
 pub struct Content {
     pub place: usize,
     pub start: usize,
@@ -24,7 +26,7 @@ pub struct Content {
 
 // A part of an object: the place of the object that holds it, its number there, its kind, and how many objects of depth are
 // left below the holder.
-#[derive(Drop)]
+#[derive(Clone, Copy)]
 pub struct Part {
     pub holder: usize,
     pub number: u32,

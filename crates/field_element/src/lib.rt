@@ -1,4 +1,6 @@
 // The list reader's start and one step of it: the list that a path leads to, and the answer at one of its elements.
+#![tactic(auto)]
+
 ghost use Rattle.std.specs.Prelude.{◌≡◌, ◌+◌, ◌*◌, ◌<◌, ◌≤◌, ◌^◌, length};
 ghost use Rattle.coding.specs.Bytes as B;
 ghost use Rattle.coding.specs.Field as F;
@@ -217,7 +219,7 @@ pub fn step_answer(b: &[u8], dir: &[u16], m: &[u8], list: Found, j: usize, o: us
 
 // ---- a step: the answer, and where the reader stands then
 // A step of a list reader: its answer, and the element at which the next step answers.
-#[derive(Drop)]
+#[derive(Clone, Copy)]
 pub struct ListStep {
     pub answer: Answer,
     pub next: usize,

@@ -1,4 +1,6 @@
 // A part of what a path has come to: a member of a struct or of a table, an element of a list. Only this part is judged.
+#![tactic(auto)]
+
 ghost use Rattle.std.specs.Prelude.{◌≡◌, ◌+◌, ◌*◌, ◌<◌, ◌≤◌, ◌^◌, length};
 ghost use Rattle.coding.specs.Field as F;
 ghost use Rattle.coding.specs.Layout as L;
@@ -21,7 +23,7 @@ use field_arrival::{Content, Part};
 
 // ---- a struct's members
 // Where a struct of an index stands.
-#[derive(Drop)]
+#[derive(Clone, Copy)]
 pub struct StructAt {
     pub index: usize,
     pub place: usize,

@@ -1,11 +1,13 @@
 // The list reader: a schema, its table of positions, a message, a path to a list, the element at which the next step answers, and the
 // width of an offset in bytes. Its functions are thin: the work is done by functions on slices and numbers.
+#![tactic(auto)]
+
 ghost use Rattle.std.specs.Prelude.{◌≡◌};
 ghost use Rattle.field_reader.specs.Reading.{gives, after};
 
 use coding::Answer;
 
-#[derive(Drop)]
+#[derive(Clone, Copy)]
 pub struct ListReader<'a, 'b, 'c, 'd> {
     pub schema: &'a [u8],
     pub positions: &'b [u8],

@@ -1,4 +1,6 @@
 // The verdict of a message.
+#![tactic(auto)]
+
 ghost use Rattle.std.specs.Prelude.{◌≡◌, ◌≤◌};
 ghost use Rattle.coding.specs.Packed as P;
 ghost use Rattle.coding.specs.Positions as Po;

@@ -1,5 +1,7 @@
 // Direct lists of which every element only counts: none of its members can be refused or lead on. A list of them takes the
 // time of one element, however many there are.
+#![tactic(auto)]
+
 ghost use Rattle.std.specs.Prelude.{◌≡◌, true, ◌+◌, ◌-◌, ◌*◌, ◌<◌, ◌≤◌, ◌^◌, length};
 ghost use Rattle.coding.specs.Packed as P;
 ghost use Rattle.coding.specs.Schema as Sc;
@@ -61,7 +63,7 @@ fn is_quiet(b: &[u8], dir: &[u16], r: Member, w: usize, slot: Slot) -> bool
 }
 
 // A member of a fixed part: whether it leads nowhere, whatever stands there, and the cursor behind it.
-#[derive(Drop)]
+#[derive(Clone, Copy)]
 struct QuietMember {
     quiet: bool,
     next: Cursor,

@@ -1,4 +1,6 @@
 // Members by the first byte of their record, and where a member leads.
+#![tactic(auto)]
+
 ghost use Rattle.std.specs.Prelude.{◌≡◌, true, ℕ, ◌+◌, ◌*◌, ◌<◌, ◌≤◌, ◌^◌, length, get_or, eqb};
 ghost use Rattle.coding.specs.Packed as P;
 ghost use Rattle.coding.specs.Schema as Sc;
@@ -97,7 +99,7 @@ fn lead_number(b: &[u8], m: &[u8], at: usize, x: Content, c: Cursor, h: usize) -
 
 // ---- row tables, whose members are numbers, floats, enums and texts by their offset, none optional
 // A row table: its index and id, where its block stands in the schema, and how many members it has.
-#[derive(Drop)]
+#[derive(Clone, Copy)]
 pub struct Rows {
     pub table: u8,
     pub id: u64,

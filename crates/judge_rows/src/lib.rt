@@ -1,4 +1,6 @@
 // Row tables, which have only numbers, floats, enums and texts, none optional or in place: no walker needs them.
+#![tactic(auto)]
+
 ghost use Rattle.std.specs.Prelude.{◌≡◌, ◌+◌, ◌*◌, ◌<◌, ◌≤◌, ◌^◌, length, get_or};
 ghost use Rattle.coding.specs.Packed as P;
 ghost use Rattle.laws.specs.Sound.{ObjectSound};

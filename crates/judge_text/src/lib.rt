@@ -1,4 +1,6 @@
 // Arrivals at texts, which no walker needs.
+#![tactic(auto)]
+
 ghost use Rattle.std.specs.Prelude.{◌≡◌, ◌+◌, ◌*◌, ◌<◌, ◌^◌, length};
 ghost use Rattle.coding.specs.Walk as W;
 ghost use Rattle.outcome.specs.Answers as As;

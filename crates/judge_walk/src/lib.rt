@@ -1,4 +1,6 @@
 // The walkers of tables, lists and unions, which call each other in a cycle.
+#![tactic(auto)]
+
 ghost use Rattle.std.specs.Prelude.{◌≡◌, true, false, ◌+◌, ◌*◌, ◌<◌, ◌≤◌, ◌^◌, length, get_or};
 ghost use Rattle.coding.specs.Bytes as B;
 ghost use Rattle.coding.specs.Packed as P;
@@ -17,7 +19,7 @@ use outcome::{Content, Outcome, Part};
 
 // Where the walk stands in a table: the number of the member that comes next, the place of its record in the schema, and the
 // cursor before it.
-#[derive(Drop)]
+#[derive(Clone, Copy)]
 struct Standing {
     number: u32,
     record: usize,

@@ -1,1 +1,2 @@
 // Laws of the definitions, which more than one crate cites, stand in specs/. No function.
+#![tactic(auto)]

@@ -1,5 +1,7 @@
 // The header of each object type: its magic, its size, and the length that it gives; the content that a header announces, and
 // the test of its bytes.
+#![tactic(auto)]
+
 ghost use Rattle.std.specs.Prelude.{◌≡◌, ◌+◌, ◌*◌, ◌<◌, ◌≤◌, ◌^◌, length};
 ghost use Rattle.coding.specs.Bytes as B;
 ghost use Rattle.coding.specs.Packed as P;
@@ -15,7 +17,7 @@ use coding::{Object, Opened};
 
 // ---- headers
 // What a header reader finds: a refusal's number, or where the content starts, and the length that the header gives.
-#[derive(Drop)]
+#[derive(Clone, Copy)]
 pub enum Header {
     Refused(u8),
     Content(usize, usize),
@@ -50,7 +52,7 @@ fn read_header(m: &[u8], at: usize, magic: u64, size: usize, o: usize) -> Header
 }
 
 // Text: length bytes and one zero byte.
-#[derive(Drop)]
+#[derive(Clone, Copy)]
 pub struct TextObject {
     pub length: usize,
 }
@@ -75,7 +77,7 @@ impl TextObject {
 }
 
 // Bytes: length bytes.
-#[derive(Drop)]
+#[derive(Clone, Copy)]
 pub struct BytesObject {
     pub length: usize,
 }
@@ -100,7 +102,7 @@ impl BytesObject {
 }
 
 // List: length elements.
-#[derive(Drop)]
+#[derive(Clone, Copy)]
 pub struct ListObject {
     pub length: usize,
 }
@@ -125,7 +127,7 @@ impl ListObject {
 }
 
 // Table: length bytes of fixed part. Its magic is its id.
-#[derive(Drop)]
+#[derive(Clone, Copy)]
 pub struct TableObject {
     pub length: usize,
 }
@@ -149,7 +151,7 @@ impl TableObject {
 
 // Direct list: its elements stand behind each other without headers. The header says besides which table they are of, and the bytes of
 // each.
-#[derive(Drop)]
+#[derive(Clone, Copy)]
 pub struct DirectObject {
     pub length: usize,
 }

@@ -1,4 +1,6 @@
 // The fixed part of a table: where its members stand.
+#![tactic(auto)]
+
 ghost use Rattle.std.specs.Prelude.{◌≡◌, ℕ, ◌+◌, ◌-◌, ◌*◌, ◌<◌, ◌≤◌, ◌^◌, length, get_or};
 ghost use Rattle.coding.specs.Layout as L;
 ghost use Rattle.coding.specs.Lists.{pick};
@@ -182,14 +184,14 @@ pub fn elements_size(b: &[u8], dir: &[u16], k: Kind, n: usize, o: usize) -> usiz
 
 // ---- members
 // Where a value stands in its fixed part, and the cursor behind it.
-#[derive(Drop)]
+#[derive(Clone, Copy)]
 struct PlacedValue {
     slot: Slot,
     next: Cursor,
 }
 
 // Where a member stands in its fixed part, and the cursor behind it.
-#[derive(Drop)]
+#[derive(Clone, Copy)]
 pub struct Placed {
     pub placement: Placement,
     pub next: Cursor,

@@ -1,4 +1,6 @@
 // What one member or element holds, and where it leads.
+#![tactic(auto)]
+
 ghost use Rattle.std.specs.Prelude.{◌≡◌, Bool, true, false, ◌&&◌, ℕ, ◌+◌, ◌-◌, ◌*◌, ◌<◌, ◌≤◌, ◌^◌, length, get_or};
 ghost use Rattle.coding.specs.Layout as L;
 ghost use Rattle.coding.specs.Packed as P;
@@ -14,7 +16,7 @@ use coding::{Cursor, Flat, Kind, Member, Object, Place, Placement, Slot, Step};
 
 // ---- whether a value is there
 // Cut by the end of the fixed part; past it, or without its flag; or here.
-#[derive(Drop)]
+#[derive(Clone, Copy)]
 pub enum Reach {
     Cut,
     Past,
@@ -363,7 +365,7 @@ pub fn struct_lead(b: &[u8], dir: &[u16], m: &[u8], s: Step) -> Step
 
 // ---- members that come next, where the cursor stands
 // A member's step, and the cursor behind the member.
-#[derive(Drop)]
+#[derive(Clone, Copy)]
 pub struct SteppedMember {
     pub step: Step,
     pub next: Cursor,

@@ -1,5 +1,7 @@
 // What a walker answers, and what is left of its allowances after an arrival and after content. A walker is given what is left of
 // both, as two numbers: of a struct the compiler makes a copy at each call.
+#![tactic(auto)]
+
 ghost use Rattle.std.specs.Prelude.{◌≡◌, ◌-◌, ◌<◌, ◌≤◌, ltb};
 ghost use Rattle.coding.specs.Walk as W;
 ghost use Rattle.outcome.specs.Answers as As;
@@ -11,7 +13,7 @@ use coding::Walked;
 pub const DEEPEST: usize = 32;
 
 // An object's content: the place of the object, where its content starts, and the length that is announced.
-#[derive(Drop)]
+#[derive(Clone, Copy)]
 pub struct Content {
     pub holder: usize,
     pub start: usize,
@@ -19,7 +21,7 @@ pub struct Content {
 }
 
 // A member or an element: the place of the object that holds it, and its number there, from 0.
-#[derive(Drop)]
+#[derive(Clone, Copy)]
 pub struct Part {
     pub holder: usize,
     pub number: u32,
@@ -31,7 +33,7 @@ pub const NO_MEMBER: u32 = wire::NO_MEMBER;
 
 // What a walker answers: 0 to go on, or a refusal's number and 1; its place and its member; the visits and the content that are
 // left.
-#[derive(Drop)]
+#[derive(Clone, Copy)]
 pub struct Outcome {
     pub code: usize,
     pub place: usize,

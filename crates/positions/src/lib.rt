@@ -1,4 +1,6 @@
 // The table of member positions: it is made from a lawful schema, a table that is handed in is held to it, and members are found by it.
+#![tactic(auto)]
+
 ghost use Rattle.std.specs.Prelude.{◌≡◌, ◌+◌, ◌*◌, ◌<◌, ◌≤◌, ◌^◌, length, take};
 ghost use Rattle.std.proofs.lemmas.List.Edits.{sets};
 ghost use Rattle.coding.specs.Layout as L;
@@ -82,7 +84,7 @@ fn flag_bit(flagged: bool, c: Cursor) -> usize
 }
 
 // A member's row, and the cursor behind the member.
-#[derive(Drop)]
+#[derive(Clone, Copy)]
 struct RowStep {
     row: Row,
     next: Cursor,

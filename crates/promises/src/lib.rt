@@ -2,6 +2,8 @@
 // the demand itself, in the words of `coding` and `demands`: it follows from the contracts of what is called and a theorem. A budget
 // is both allowances (02, K7). Every reader is lent a table of member positions, `rows` (02, K10): a contract says what it answers with any
 // table, by `lent`; demands that join several functions suppose the table that is built from the schema, `TableOf`.
+#![tactic(auto)]
+
 ghost use Rattle.std.specs.Prelude.{◌≡◌, [], ◌∷◌, ◌++◌, ◌↔◌, ◌⊎◌, true, false, ℕ, suc, ◌+◌, ◌/◌, ◌<◌, ◌≤◌, length, take, drop};
 ghost use Rattle.std.proofs.Math.Option.{some};
 ghost use Rattle.coding.specs.Append as Ap;
@@ -49,7 +51,7 @@ pub fn table_made(schema: &[u8], out: &mut [u8], o: usize) -> WriteAnswer
 }
 
 // The table that was made, and a verdict with it.
-#[derive(Drop)]
+#[derive(Clone, Copy)]
 pub struct TableAndVerdict {
     pub table: WriteAnswer,
     pub verdict: Verdict,
@@ -132,13 +134,13 @@ pub fn read(
 }
 
 // The answers with two budgets. In `Readings` the first goes to the first output.
-#[derive(Drop)]
+#[derive(Clone, Copy)]
 pub struct Stories {
     pub less: Verdict,
     pub more: Verdict,
 }
 
-#[derive(Drop)]
+#[derive(Clone, Copy)]
 pub struct Readings {
     pub less: ReadAnswer,
     pub more: ReadAnswer,
@@ -203,7 +205,7 @@ pub fn read_with_more(
 }
 
 // The verdicts of two schemas, of which the newer appends to the older.
-#[derive(Drop)]
+#[derive(Clone, Copy)]
 pub struct Verdicts {
     pub older: Verdict,
     pub newer: Verdict,
@@ -234,7 +236,7 @@ pub fn judged_by_both(
 }
 
 // The sheets by two schemas, of which the newer appends to the older. The older's goes to the first output.
-#[derive(Drop)]
+#[derive(Clone, Copy)]
 pub struct Sheets {
     pub older: ReadAnswer,
     pub newer: ReadAnswer,
@@ -275,7 +277,7 @@ pub fn read_by_both(
 
 // The sheets by three schemas, each of which appends to the one before. The oldest's goes to the first output, the middle's to the
 // second, the newest's to the third.
-#[derive(Drop)]
+#[derive(Clone, Copy)]
 pub struct ThreeSheets {
     pub oldest: ReadAnswer,
     pub middle: ReadAnswer,
@@ -322,7 +324,7 @@ pub fn read_by_three(
 }
 
 // One field and the whole sheet of a message.
-#[derive(Drop)]
+#[derive(Clone, Copy)]
 pub struct FieldAndSheet {
     pub field: Answer,
     pub sheet: ReadAnswer,
@@ -362,7 +364,7 @@ pub fn field_and_sheet(
 }
 
 // Where a text stands, and the whole sheet of a message.
-#[derive(Drop)]
+#[derive(Clone, Copy)]
 pub struct TextAndSheet {
     pub text: Span,
     pub sheet: ReadAnswer,
@@ -403,7 +405,7 @@ pub fn text_and_sheet(
 }
 
 // A step of the list reader and the field at the element's path, which is given whole.
-#[derive(Drop)]
+#[derive(Clone, Copy)]
 pub struct StepAndField {
     pub step: ListStep,
     pub field: Answer,
@@ -499,7 +501,7 @@ pub fn written(schema: &[u8], sheet: &[u8], out: &mut [u8], o: usize) -> WriteAn
 }
 
 // A message that was written, and what reading it gives.
-#[derive(Drop)]
+#[derive(Clone, Copy)]
 pub struct Trip {
     pub written: WriteAnswer,
     pub read: ReadAnswer,
@@ -567,7 +569,7 @@ pub fn write_then_read_newer(
 }
 
 // A message that was written, and its verdicts by two schemas.
-#[derive(Drop)]
+#[derive(Clone, Copy)]
 pub struct Judgements {
     pub written: WriteAnswer,
     pub older: Verdict,
@@ -607,7 +609,7 @@ pub fn write_then_judge(
 
 // A stored message that is moved over (02, K12): reading its sheet, clearing the schema, writing the sheet with that schema, and
 // reading the sheet back.
-#[derive(Drop)]
+#[derive(Clone, Copy)]
 pub struct Moved {
     pub stored: ReadAnswer,
     pub cleared: WriteAnswer,

@@ -1,5 +1,7 @@
 // The library's C interface: thin, no logic. include/scalgo.h declares it. The number `coding` says the coding, 48 or 32; any other
 // names none, and no schema is lawful then. Every reader is lent the table of member positions that `scalgo_positions` makes.
+#![tactic(auto)]
+
 ghost use Rattle.std.specs.Prelude.{◌≡◌, ◌+◌, ◌≤◌};
 ghost use Rattle.std.proofs.Math.ListN as N;
 ghost use Rattle.coding.specs.Bytes as B;

@@ -2,6 +2,8 @@
 //
 // The directory is an array of DIRECTORY numbers that the caller lends: where each struct stands, the first list, each union
 // and each table; the size of each struct, and its representative.
+#![tactic(auto)]
+
 ghost use Rattle.std.specs.Prelude.{◌≡◌, ◌&&◌, not, ◌+◌, ◌*◌, ◌<◌, ◌≤◌, ◌^◌, eqb, ltb, length, get_or};
 ghost use Rattle.coding.specs.Packed as P;
 ghost use Rattle.coding.specs.Schema as Sc;

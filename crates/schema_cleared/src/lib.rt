@@ -1,4 +1,6 @@
 // A schema in which only the in-place flag of its unions is cleared: messages with such unions are moved over to it (02, K12).
+#![tactic(auto)]
+
 ghost use Rattle.std.specs.Prelude.{◌≡◌, ◌+◌, ◌<◌, ◌≤◌, length, get_or, set};
 ghost use Rattle.coding.specs.Packed as P;
 ghost use Rattle.coding.specs.Message.{write_room, write_over};

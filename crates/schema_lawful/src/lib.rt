@@ -1,4 +1,6 @@
 // Whether bytes are a lawful schema.
+#![tactic(auto)]
+
 ghost use Rattle.std.specs.Prelude.{◌≡◌, ◌+◌, ◌<◌, length};
 ghost use Rattle.coding.specs.Packed as P;
 ghost use Rattle.coding.specs.Lawful as L;
@@ -78,7 +80,7 @@ fn older_table(b: &[u8], dir: &[u16], i: usize) -> bool
 
 // ---- part by part
 // What the rules go over once the structs are judged, and the older coding once the rules are met.
-#[derive(Drop)]
+#[derive(Clone, Copy)]
 enum Part {
     Lists,
     Unions,

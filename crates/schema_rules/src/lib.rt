@@ -1,4 +1,6 @@
 // The rules of a record, of a block of records, and of a list, a union and a table.
+#![tactic(auto)]
+
 ghost use Rattle.std.specs.Prelude.{◌≡◌, true, ◌+◌, ◌*◌, ◌<◌, ◌≤◌, length};
 ghost use Rattle.coding.specs.Packed as P;
 ghost use Rattle.coding.specs.Lawful as L;

@@ -1,4 +1,6 @@
 // The rules of the structs. Their sizes and representatives are stored in the directory.
+#![tactic(auto)]
+
 ghost use Rattle.std.specs.Prelude.{◌≡◌, ◌<◌, ◌≤◌, length};
 ghost use Rattle.coding.specs.Packed as P;
 ghost use Rattle.coding.specs.Lawful as L;

@@ -1,5 +1,7 @@
 // Reading to a sheet: an accepted message's entries are counted and then stored, and the answer. An offset and a length have `o`
 // bytes.
+#![tactic(auto)]
+
 ghost use Rattle.std.specs.Prelude.{◌≡◌, ◌≤◌, length};
 ghost use Rattle.coding.specs.Bits.{packed, byte_count};
 ghost use Rattle.coding.specs.Message as M;

@@ -1,5 +1,7 @@
 // The elements of a list that lead to no object: numbers and bools without a mark, floats and enums with one each. Counted
 // always, and stored where there is room.
+#![tactic(auto)]
+
 ghost use Rattle.std.specs.Prelude.{◌≡◌, Bool, true, ◌⊎◌, ℕ, ◌+◌, ◌-◌, ◌*◌, ◌/◌, ◌<◌, ◌≤◌, ◌^◌, length};
 ghost use Rattle.coding.specs.Bits.{bits_of};
 ghost use Rattle.bitio.specs.Puts.{Room, Puts};
@@ -353,7 +355,7 @@ fn enum_number(k: u8, x: u8) -> u64
 }
 
 // Some bits, as a number of that width.
-#[derive(Drop)]
+#[derive(Clone, Copy)]
 struct BitRun {
     width: usize,
     value: u64,

@@ -1,5 +1,7 @@
 // One value of a sheet: a mark and what follows it, or a struct's number without one. Counted always, and stored where there
 // is room.
+#![tactic(auto)]
+
 ghost use Rattle.std.specs.Prelude.{◌≡◌, ◌+◌, ◌*◌, ◌<◌, ◌≤◌, ◌^◌, length};
 ghost use Rattle.coding.specs.Bytes as B;
 ghost use Rattle.coding.specs.Bits.{bits_of};

@@ -1,5 +1,7 @@
 // A sheet's entries: one walk over an accepted message counts their bits and, where there is room, stores them. An offset and
 // a length have `o` bytes.
+#![tactic(auto)]
+
 ghost use Rattle.std.specs.Prelude.{◌≡◌, true, false, ◌+◌, ◌*◌, ◌<◌, ◌≤◌, ◌^◌, length};
 ghost use Rattle.coding.specs.Packed as P;
 ghost use Rattle.coding.specs.Schema as Sc;
@@ -77,7 +79,7 @@ fn put_struct(
 // ---- objects
 // An object's content: where it starts, and the length that its header or its holder gives, which counts the elements of a
 // list and the bytes of anything else.
-#[derive(Drop)]
+#[derive(Clone, Copy)]
 pub struct Content {
     pub start: usize,
     pub length: usize,
@@ -216,7 +218,7 @@ fn put_blob_reference(
 }
 
 // A member's kind, whether and where its value stands, and the cursor behind it. With `none` a NaN is no value.
-#[derive(Drop)]
+#[derive(Clone, Copy)]
 pub struct PlacedMember {
     pub kind: Kind,
     pub none: bool,

@@ -1,4 +1,6 @@
 // Whether bytes are text by RFC 3629: short texts and runs of ASCII are told by words and by blocks, all else goes through a table.
+#![tactic(auto)]
+
 ghost use Rattle.std.specs.Prelude.{◌≡◌, true, ◌+◌, ◌<◌, ◌≤◌, length, get_or, take, drop};
 ghost use Rattle.coding.specs.Utf8.{may_end, is_text};
 ghost use Rattle.wire.specs.Numbers.{Number};

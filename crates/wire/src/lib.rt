@@ -1,5 +1,7 @@
 // Numbers and bits of a message, and the sizes that the coding fixes. The `_in` forms require that the bytes are there and
 // test nothing; the others read 0 past the end.
+#![tactic(auto)]
+
 ghost use Rattle.std.specs.Prelude.{◌≡◌, ◌+◌, ◌*◌, ◌/◌, ◌%◌, ◌^◌, ◌≤◌, ◌<◌, length, get_or, eqb};
 ghost use Rattle.std.proofs.lemmas.List.Edits.{sets};
 ghost use Rattle.coding.specs.Bytes as B;

@@ -1,4 +1,6 @@
 // Writing a message from a value sheet: the sheet is surveyed first, and then one pass over it stores the message.
+#![tactic(auto)]
+
 ghost use Rattle.std.specs.Prelude.{◌≡◌, false, ℕ, ◌+◌, ◌*◌, ◌≤◌, length, drop};
 ghost use Rattle.coding.specs.Bits.{bits};
 ghost use Rattle.coding.specs.Bytes as B;

@@ -1,5 +1,7 @@
 // The survey of a value sheet, which the writer makes before it stores anything: whether the sheet is lawful, whether it can be
 // written, and what each object takes.
+#![tactic(auto)]
+
 ghost use Rattle.std.specs.Prelude.{◌≡◌, Bool, true, false, ◌&&◌, ℕ, ◌+◌, ◌-◌, ◌*◌, ◌%◌, ◌<◌, ◌≤◌, ◌^◌, length, take, drop, set, replicate, ltb};
 ghost use Rattle.std.proofs.lemmas.List.Edits.{sets};
 ghost use Rattle.coding.specs.Bits.{bits, value, pack};
@@ -31,7 +33,7 @@ use message_header::TableObject;
 // (width), of the contents in place behind it (chain), and of the objects that these refer to (below). The last two count to
 // one past the size. The order of the fields is for speed: behind a bool's padding, or as a pair just stored, they are copied
 // slowly.
-#[derive(Drop)]
+#[derive(Clone, Copy)]
 pub struct Extent {
     pub chain: usize,
     pub length: usize,
@@ -42,7 +44,7 @@ pub struct Extent {
 
 // ---- flat values: bools, numbers, enums and structs, which lead to no object
 // Whether a part of the sheet is lawful; if so, whether it can be written, and where the sheet goes on, in bits.
-#[derive(Drop)]
+#[derive(Clone, Copy)]
 pub struct Tested {
     pub next: usize,
     pub whole: bool,
@@ -342,7 +344,7 @@ fn choice_unknown(b: &[u8], dir: &[u16], s: &[u8], pos: usize, u: usize) -> Test
 
 // ---- extents
 // Whether a part of the sheet is lawful; if so, what it takes, and where the sheet goes on, in bits.
-#[derive(Drop)]
+#[derive(Clone, Copy)]
 pub struct Surveyed {
     pub extent: Extent,
     pub next: usize,
@@ -833,7 +835,7 @@ fn simple_member(
 }
 
 // Members gone over up to `index`: whether they are lawful; if so, what is there, and where the sheet goes on, in bits.
-#[derive(Drop)]
+#[derive(Clone, Copy)]
 pub struct Left {
     pub extent: Extent,
     pub next: usize,

@@ -1,4 +1,6 @@
 // The pass that stores a message from a value sheet.
+#![tactic(auto)]
+
 ghost use Rattle.std.specs.Prelude.{◌≡◌, [], ◌∷◌, Bool, true, false, ◌&&◌, not, ℕ, ◌+◌, ◌-◌, ◌*◌, ◌%◌, ◌<◌, ◌≤◌, ◌^◌, length, drop};
 ghost use Rattle.coding.specs.Bytes as B;
 ghost use Rattle.coding.specs.Bits.{bits};
@@ -31,7 +33,7 @@ use write_store::Places;
 // ---- flat values: bools, numbers, enums and structs, which lead to no object
 // Whether a part of the sheet is lawful; if so, where the message goes on behind it, and where the sheet does. The bool stands
 // last for speed: behind its padding the places are copied slowly.
-#[derive(Drop)]
+#[derive(Clone, Copy)]
 pub struct Emitted {
     pub places: Places,
     pub next: usize,
@@ -480,7 +482,7 @@ fn emit_unmarked(s: &[u8], out: &mut [u8], w: usize, n: usize, c: Places, pos: u
 
 // ---- what an object needs around its content
 // What was copied of a text or bytes: how many bytes, where the sheet goes on, and whether it is lawful.
-#[derive(Drop)]
+#[derive(Clone, Copy)]
 pub struct Copied {
     pub length: usize,
     pub next: usize,

@@ -1,4 +1,6 @@
 // Stores into a message, and the places where it goes on.
+#![tactic(auto)]
+
 ghost use Rattle.std.specs.Prelude.{◌≡◌, ℕ, ◌+◌, ◌-◌, ◌*◌, ◌%◌, ◌<◌, ◌≤◌, ◌^◌, length, take, drop, set, replicate};
 ghost use Rattle.std.proofs.lemmas.List.Edits.{sets};
 ghost use Rattle.coding.specs.Bytes as B;
@@ -11,7 +13,7 @@ ghost use Rattle.write_store.specs.Storing.{state_of, HeldOk, BitPut, Stood};
 
 // Where the message goes on: the next byte of the present sequence; its last bool byte, how many bits are free there, and
 // what the byte holds so far; where the next content in place starts, and where the next object does.
-#[derive(Drop)]
+#[derive(Clone, Copy)]
 pub struct Places {
     pub at: usize,
     pub last: usize,

@@ -1,4 +1,6 @@
 // Whether the bytes of a text in a sheet are text by RFC 3629. They stand at any bit position, and are taken 64 at a time.
+#![tactic(auto)]
+
 ghost use Rattle.std.specs.Prelude.{◌≡◌, ◌≤◌, length, drop};
 ghost use Rattle.coding.specs.Bits.{bits, pack};
 ghost use Rattle.coding.specs.Utf8.{is_text};
