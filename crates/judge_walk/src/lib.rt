@@ -42,7 +42,7 @@ fn leads_nowhere(step: Step) -> bool
 }
 
 // An arrival at an object, with this one counted in the depth that is left.
-#[cycle(admit_arrive_choice_choices_directs_elements_follow_list_refer_reference_references_table_union_visit)]
+#[cycle(walk)]
 pub fn visit(
     b: &[u8],
     dir: &[u16],
@@ -86,7 +86,7 @@ pub fn visit(
 }
 
 // An object's content, which fits: its charge, the test of its bytes, and its parts. Texts and bytes have none.
-#[cycle(admit_arrive_choice_choices_directs_elements_follow_list_refer_reference_references_table_union_visit)]
+#[cycle(walk)]
 fn admit(
     b: &[u8],
     dir: &[u16],
@@ -117,7 +117,7 @@ fn admit(
 }
 
 // The members of table t, whose fixed part is the content.
-#[cycle(admit_arrive_choice_choices_directs_elements_follow_list_refer_reference_references_table_union_visit)]
+#[cycle(walk)]
 fn table(
     b: &[u8],
     dir: &[u16],
@@ -183,7 +183,7 @@ fn table(
 }
 
 // The object by its offset of the member that comes next.
-#[cycle(admit_arrive_choice_choices_directs_elements_follow_list_refer_reference_references_table_union_visit)]
+#[cycle(walk)]
 fn reference(
     b: &[u8],
     dir: &[u16],
@@ -220,7 +220,7 @@ fn reference(
 }
 
 // The elements of list i.
-#[cycle(admit_arrive_choice_choices_directs_elements_follow_list_refer_reference_references_table_union_visit)]
+#[cycle(walk)]
 fn list(
     b: &[u8],
     dir: &[u16],
@@ -259,7 +259,7 @@ fn list(
 }
 
 // The elements of a direct list of table t, by the size that its header gives.
-#[cycle(admit_arrive_choice_choices_directs_elements_follow_list_refer_reference_references_table_union_visit)]
+#[cycle(walk)]
 fn directs(
     b: &[u8],
     dir: &[u16],
@@ -283,7 +283,7 @@ fn directs(
 }
 
 // The elements of a direct list of table t, of w bytes each: an arrival at each, one behind the other.
-#[cycle(admit_arrive_choice_choices_directs_elements_follow_list_refer_reference_references_table_union_visit)]
+#[cycle(walk)]
 fn elements(
     b: &[u8],
     dir: &[u16],
@@ -318,7 +318,7 @@ fn elements(
 }
 
 // The objects of a list, by their offsets.
-#[cycle(admit_arrive_choice_choices_directs_elements_follow_list_refer_reference_references_table_union_visit)]
+#[cycle(walk)]
 fn references(
     b: &[u8],
     dir: &[u16],
@@ -357,7 +357,7 @@ fn references(
 }
 
 // What offset x leads to: nothing, or an arrival.
-#[cycle(admit_arrive_choice_choices_directs_elements_follow_list_refer_reference_references_table_union_visit)]
+#[cycle(walk)]
 fn refer(
     b: &[u8],
     dir: &[u16],
@@ -379,7 +379,7 @@ fn refer(
 }
 
 // The choices of a list of union i.
-#[cycle(admit_arrive_choice_choices_directs_elements_follow_list_refer_reference_references_table_union_visit)]
+#[cycle(walk)]
 fn choices(
     b: &[u8],
     dir: &[u16],
@@ -417,7 +417,7 @@ fn choices(
 }
 
 // What the choice of union i at `at` leads to, an element of a list.
-#[cycle(admit_arrive_choice_choices_directs_elements_follow_list_refer_reference_references_table_union_visit)]
+#[cycle(walk)]
 fn choice(
     b: &[u8],
     dir: &[u16],
@@ -457,7 +457,7 @@ fn choice(
 }
 
 // What the step of a part leads to.
-#[cycle(admit_arrive_choice_choices_directs_elements_follow_list_refer_reference_references_table_union_visit)]
+#[cycle(walk)]
 fn follow(
     b: &[u8],
     dir: &[u16],
@@ -484,7 +484,7 @@ fn follow(
 }
 
 // An arrival at an object, at a text by its offset without the walker.
-#[cycle(admit_arrive_choice_choices_directs_elements_follow_list_refer_reference_references_table_union_visit)]
+#[cycle(walk)]
 fn arrive(
     b: &[u8],
     dir: &[u16],
@@ -521,7 +521,7 @@ fn arrive(
 }
 
 // The object of a union's known choice, a part of its holder.
-#[cycle(admit_arrive_choice_choices_directs_elements_follow_list_refer_reference_references_table_union_visit)]
+#[cycle(walk)]
 fn union(
     b: &[u8],
     dir: &[u16],

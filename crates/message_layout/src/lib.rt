@@ -247,7 +247,7 @@ pub fn place_member(b: &[u8], dir: &[u16], r: Member, c: Cursor, o: usize) -> Pl
 
 // ---- struct booleans, by recursion on the struct index, which falls at every inner struct
 // Whether each bool of a struct's member at a place is a byte 0 or 1.
-#[cycle(field_ok_struct_ok)]
+#[cycle(booleans)]
 fn field_ok(b: &[u8], dir: &[u16], m: &[u8], i: usize, k: Flat, at: usize) -> bool
     requires accepted { (Accepted b.now dir.now) × (FlatSound i k) × (i < P.struct_count b.now) }
     requires k_in_bounds { at + S.flat_width (S.struct_size (P.parse b.now)) k ≤ length m.now }
@@ -264,7 +264,7 @@ fn field_ok(b: &[u8], dir: &[u16], m: &[u8], i: usize, k: Flat, at: usize) -> bo
 
 // Whether each bool of the struct i at a place is a byte 0 or 1. It goes over the members of the struct's representative,
 // which are two or more or one that is no struct: the calls are no more than about twice the bytes, however deep the structs.
-#[cycle(field_ok_struct_ok)]
+#[cycle(booleans)]
 pub fn struct_ok(b: &[u8], dir: &[u16], m: &[u8], i: usize, at: usize) -> bool
     requires { (Accepted b.now dir.now) × (i < P.struct_count b.now) × (at + S.struct_size (P.parse b.now) i ≤ length m.now) }
     ensures { result ≡ S.struct_ok (P.parse b.now) m.now i at }

@@ -15,7 +15,7 @@ use coding::{Flat, Role};
 // ---- struct sizes, by recursion on the struct index, which falls at every inner struct. The sizes of the first `known`
 // structs are taken from the directory, so that a chain of structs is gone over once.
 // The bytes of a member of struct s.
-#[cycle(field_size_struct_size)]
+#[cycle(sizes)]
 fn field_size(b: &[u8], dir: &[u16], known: usize, s: usize, f: Flat) -> usize
     requires { (Directory b.now dir.now) × (Sizes b.now dir.now known) × (s < P.struct_count b.now) × SmallBelow b.now s }
     ensures { (result ≡ S.flat_width (S.lower 0 (S.size_by (P.parse b.now)) s) f) × (result ≤ 4096) }
@@ -37,7 +37,7 @@ fn field_size(b: &[u8], dir: &[u16], known: usize, s: usize, f: Flat) -> usize
 }
 
 // The bytes of struct s.
-#[cycle(field_size_struct_size)]
+#[cycle(sizes)]
 fn struct_size(b: &[u8], dir: &[u16], known: usize, s: usize) -> usize
     requires { (Directory b.now dir.now) × (Sizes b.now dir.now known) × (s < P.struct_count b.now) × SmallBelow b.now s }
     ensures { (result ≡ S.struct_size (P.parse b.now) s) × (result ≤ 1048576) }

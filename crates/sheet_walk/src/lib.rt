@@ -22,7 +22,7 @@ use coding::{Cursor, Flat, Kind, Object, Place};
 
 // ---- structs, by recursion on the struct index, which falls at every inner struct
 // A member of struct i, which stands at `at`.
-#[cycle(put_field_put_struct)]
+#[cycle(structs)]
 fn put_field(
     b: &[u8],
     dir: &[u16],
@@ -48,7 +48,7 @@ fn put_field(
 }
 
 // The members of struct i, which stands at `at`, without a mark.
-#[cycle(put_field_put_struct)]
+#[cycle(structs)]
 fn put_struct(
     b: &[u8],
     dir: &[u16],
@@ -499,7 +499,7 @@ fn lead_width(k: usize, o: usize) -> usize
 }
 
 // The object or the choice that the member of the record at `at` leads to, where the cursor stands.
-#[cycle(put_choices_put_content_put_directs_put_element_put_lead_put_list_put_object_put_reference_put_references_put_table_put_union)]
+#[cycle(walk)]
 fn put_lead(
     b: &[u8],
     dir: &[u16],
@@ -542,7 +542,7 @@ fn put_lead(
 
 // ---- objects by their places
 // The object that a reference x, or in place a length x, leads to, with its mark.
-#[cycle(put_choices_put_content_put_directs_put_element_put_lead_put_list_put_object_put_reference_put_references_put_table_put_union)]
+#[cycle(walk)]
 fn put_reference(
     b: &[u8],
     dir: &[u16],
@@ -571,7 +571,7 @@ fn put_reference(
 
 // The object that a list's reference x leads to, with its mark. It says what `put_reference` says, and is apart for speed: its one
 // caller is the list's loop.
-#[cycle(put_choices_put_content_put_directs_put_element_put_lead_put_list_put_object_put_reference_put_references_put_table_put_union)]
+#[cycle(walk)]
 fn put_element(
     b: &[u8],
     dir: &[u16],
@@ -596,7 +596,7 @@ fn put_element(
 }
 
 // What choice c of union u, with the reference or length x, leads to, with its mark.
-#[cycle(put_choices_put_content_put_directs_put_element_put_lead_put_list_put_object_put_reference_put_references_put_table_put_union)]
+#[cycle(walk)]
 fn put_union(
     b: &[u8],
     dir: &[u16],
@@ -629,7 +629,7 @@ fn put_union(
 }
 
 // The object at a place, with d objects of depth left, this one counted.
-#[cycle(put_choices_put_content_put_directs_put_element_put_lead_put_list_put_object_put_reference_put_references_put_table_put_union)]
+#[cycle(walk)]
 fn put_object(
     b: &[u8],
     dir: &[u16],
@@ -655,7 +655,7 @@ fn put_object(
 }
 
 // The content of the object at `at`; d objects of depth are left below it.
-#[cycle(put_choices_put_content_put_directs_put_element_put_lead_put_list_put_object_put_reference_put_references_put_table_put_union)]
+#[cycle(walk)]
 fn put_content(
     b: &[u8],
     dir: &[u16],
@@ -686,7 +686,7 @@ fn put_content(
 }
 
 // The members of table t, which has this fixed part.
-#[cycle(put_choices_put_content_put_directs_put_element_put_lead_put_list_put_object_put_reference_put_references_put_table_put_union)]
+#[cycle(walk)]
 fn put_table(
     b: &[u8],
     dir: &[u16],
@@ -737,7 +737,7 @@ fn put_table(
 
 // The elements of a direct list of table t, each of w bytes, behind their count. Their table has a member, so that each takes bits, and
 // the loop ends soon past the limit, however many they are.
-#[cycle(put_choices_put_content_put_directs_put_element_put_lead_put_list_put_object_put_reference_put_references_put_table_put_union)]
+#[cycle(walk)]
 fn put_directs(
     b: &[u8],
     dir: &[u16],
@@ -772,7 +772,7 @@ fn put_directs(
 }
 
 // The elements of list i, behind their count.
-#[cycle(put_choices_put_content_put_directs_put_element_put_lead_put_list_put_object_put_reference_put_references_put_table_put_union)]
+#[cycle(walk)]
 fn put_list(
     b: &[u8],
     dir: &[u16],
@@ -812,7 +812,7 @@ fn put_list(
 }
 
 // The objects of a list, by their offsets.
-#[cycle(put_choices_put_content_put_directs_put_element_put_lead_put_list_put_object_put_reference_put_references_put_table_put_union)]
+#[cycle(walk)]
 fn put_references(
     b: &[u8],
     dir: &[u16],
@@ -846,7 +846,7 @@ fn put_references(
 }
 
 // The choices of a list of union u.
-#[cycle(put_choices_put_content_put_directs_put_element_put_lead_put_list_put_object_put_reference_put_references_put_table_put_union)]
+#[cycle(walk)]
 fn put_choices(
     b: &[u8],
     dir: &[u16],

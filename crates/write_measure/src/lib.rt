@@ -179,7 +179,7 @@ fn enum_field(s: &[u8], pos: usize, n: u8) -> Tested
 
 // ---- structs, by recursion on the struct index, which falls at every inner struct
 // A member of struct i, of kind k.
-#[cycle(field_test_struct_test)]
+#[cycle(structs)]
 fn field_test(b: &[u8], dir: &[u16], s: &[u8], i: usize, k: Flat, pos: usize) -> Tested
     requires { (Accepted b.now dir.now) × (FlatSound i k) × (i < P.struct_count b.now) × By.Inside s.now pos }
     ensures { By.Tests s.now pos (By.field b.now k) result }
@@ -194,7 +194,7 @@ fn field_test(b: &[u8], dir: &[u16], s: &[u8], i: usize, k: Flat, pos: usize) ->
 }
 
 // The members of struct i in turn. Only an unknown enum keeps a struct from being written.
-#[cycle(field_test_struct_test)]
+#[cycle(structs)]
 fn struct_test(b: &[u8], dir: &[u16], s: &[u8], i: usize, at: usize) -> Tested
     requires { (Accepted b.now dir.now) × (i < P.struct_count b.now) × By.Inside s.now at }
     ensures { By.Tests s.now at (By.struct b.now i) result }
@@ -1083,7 +1083,7 @@ fn unknown(b: &[u8], dir: &[u16], s: &[u8], pos: usize, k: Kind) -> Surveyed
 }
 
 // An object that is referred to, or stands in place, with what it adds to its holder.
-#[cycle(body_choice_direct_directs_list_marked_row_member_part_object_part_refer_row_rows_table_table_found)]
+#[cycle(walk)]
 fn refer(
     b: &[u8],
     dir: &[u16],
@@ -1113,7 +1113,7 @@ fn refer(
 }
 
 // The known choice of union u, and the object of that case.
-#[cycle(body_choice_direct_directs_list_marked_row_member_part_object_part_refer_row_rows_table_table_found)]
+#[cycle(walk)]
 fn choice(
     b: &[u8],
     dir: &[u16],
@@ -1144,7 +1144,7 @@ fn choice(
 }
 
 // A member or an element, present, behind its mark.
-#[cycle(body_choice_direct_directs_list_marked_row_member_part_object_part_refer_row_rows_table_table_found)]
+#[cycle(walk)]
 fn body(
     b: &[u8],
     dir: &[u16],
@@ -1167,7 +1167,7 @@ fn body(
 }
 
 // A member or an element: its mark, and what the mark says comes next.
-#[cycle(body_choice_direct_directs_list_marked_row_member_part_object_part_refer_row_rows_table_table_found)]
+#[cycle(walk)]
 fn part(
     b: &[u8],
     dir: &[u16],
@@ -1205,7 +1205,7 @@ fn part(
 }
 
 // `part` of a table's member. It is apart for speed: a table's slices are stored for the call only where there is such a member.
-#[cycle(body_choice_direct_directs_list_marked_row_member_part_object_part_refer_row_rows_table_table_found)]
+#[cycle(walk)]
 fn member_part(
     b: &[u8],
     dir: &[u16],
@@ -1223,7 +1223,7 @@ fn member_part(
 }
 
 // The content of table t; `size` is that of its full fixed part.
-#[cycle(body_choice_direct_directs_list_marked_row_member_part_object_part_refer_row_rows_table_table_found)]
+#[cycle(walk)]
 fn table(
     b: &[u8],
     dir: &[u16],
@@ -1273,7 +1273,7 @@ fn table(
 }
 
 // The content of table t, with the size of its fixed part found first.
-#[cycle(body_choice_direct_directs_list_marked_row_member_part_object_part_refer_row_rows_table_table_found)]
+#[cycle(walk)]
 fn table_found(b: &[u8], dir: &[u16], s: &[u8], d: usize, t: usize, at: usize, o: usize) -> Surveyed
     requires { (Accepted b.now dir.now) × (Width o) × (t < P.table_count b.now) × By.Inside s.now at }
     ensures { By.Surveys s.now at (By.content o d b.now (Object.Table t)) result }
@@ -1284,7 +1284,7 @@ fn table_found(b: &[u8], dir: &[u16], s: &[u8], d: usize, t: usize, at: usize, o
 
 // ---- a list of tables, whose fixed parts all have one size
 // Table t that an element refers to; `size` is that of its full fixed part.
-#[cycle(body_choice_direct_directs_list_marked_row_member_part_object_part_refer_row_rows_table_table_found)]
+#[cycle(walk)]
 fn row(
     b: &[u8],
     dir: &[u16],
@@ -1312,7 +1312,7 @@ fn row(
 }
 
 // An element that refers to table t: its mark, and the table if it is present.
-#[cycle(body_choice_direct_directs_list_marked_row_member_part_object_part_refer_row_rows_table_table_found)]
+#[cycle(walk)]
 fn marked_row(
     b: &[u8],
     dir: &[u16],
@@ -1346,7 +1346,7 @@ fn marked_row(
 }
 
 // The n elements of a list that refer to table t, and take `total` bytes in the list.
-#[cycle(body_choice_direct_directs_list_marked_row_member_part_object_part_refer_row_rows_table_table_found)]
+#[cycle(walk)]
 fn rows(
     b: &[u8],
     dir: &[u16],
@@ -1382,7 +1382,7 @@ fn rows(
 }
 
 // The content of list i.
-#[cycle(body_choice_direct_directs_list_marked_row_member_part_object_part_refer_row_rows_table_table_found)]
+#[cycle(walk)]
 fn list(b: &[u8], dir: &[u16], s: &[u8], d: usize, i: usize, at: usize, o: usize) -> Surveyed
     requires { (Accepted b.now dir.now) × (Width o) × (i < P.list_count b.now) × By.Inside s.now at }
     ensures { By.Surveys s.now at (By.content o d b.now (Object.List i)) result }
@@ -1422,7 +1422,7 @@ fn list(b: &[u8], dir: &[u16], s: &[u8], d: usize, i: usize, at: usize, o: usize
 
 // ---- direct lists, whose elements are tables without marks
 // An element of a direct list of table t; `size` is that of its full fixed part.
-#[cycle(body_choice_direct_directs_list_marked_row_member_part_object_part_refer_row_rows_table_table_found)]
+#[cycle(walk)]
 fn direct(
     b: &[u8],
     dir: &[u16],
@@ -1443,7 +1443,7 @@ fn direct(
 }
 
 // The content of a direct list of table t.
-#[cycle(body_choice_direct_directs_list_marked_row_member_part_object_part_refer_row_rows_table_table_found)]
+#[cycle(walk)]
 fn directs(b: &[u8], dir: &[u16], s: &[u8], d: usize, t: usize, at: usize, o: usize) -> Surveyed
     requires { (Accepted b.now dir.now) × (Width o) × (t < P.table_count b.now) × By.Inside s.now at }
     ensures { By.Surveys s.now at (By.content o d b.now (Object.DirectList t)) result }
@@ -1474,7 +1474,7 @@ fn directs(b: &[u8], dir: &[u16], s: &[u8], d: usize, t: usize, at: usize, o: us
 }
 
 // An object's content, where d objects may stand below each other, this one counted.
-#[cycle(body_choice_direct_directs_list_marked_row_member_part_object_part_refer_row_rows_table_table_found)]
+#[cycle(walk)]
 pub fn object(
     b: &[u8],
     dir: &[u16],

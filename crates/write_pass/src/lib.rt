@@ -166,7 +166,7 @@ fn emit_marked_enum(s: &[u8], out: &mut [u8], n: u8, c: Places, pos: usize) -> E
 
 // ---- structs, by recursion on the struct index, which falls at every inner struct
 // A member of struct i, of kind k.
-#[cycle(emit_field_emit_struct)]
+#[cycle(structs)]
 fn emit_field(
     b: &[u8],
     dir: &[u16],
@@ -191,7 +191,7 @@ fn emit_field(
 }
 
 // Struct i: its members joined.
-#[cycle(emit_field_emit_struct)]
+#[cycle(structs)]
 fn emit_struct(
     b: &[u8],
     dir: &[u16],
@@ -1011,7 +1011,7 @@ fn kept(x: Emitted) -> Emitted
 }
 
 // An object by its offset or in place: measured, and then what refers to it and the object itself.
-#[cycle(emit_body_emit_choice_emit_content_emit_direct_emit_direct_list_emit_directs_emit_element_emit_elements_emit_list_emit_marked_emit_measured_emit_objects_emit_part_emit_refer_emit_table)]
+#[cycle(walk)]
 fn emit_refer(
     b: &[u8],
     dir: &[u16],
@@ -1033,7 +1033,7 @@ fn emit_refer(
 }
 
 // An object by its offset or in place, whose extent e is known.
-#[cycle(emit_body_emit_choice_emit_content_emit_direct_emit_direct_list_emit_directs_emit_element_emit_elements_emit_list_emit_marked_emit_measured_emit_objects_emit_part_emit_refer_emit_table)]
+#[cycle(walk)]
 pub fn emit_measured(
     b: &[u8],
     dir: &[u16],
@@ -1062,7 +1062,7 @@ pub fn emit_measured(
 }
 
 // The known choice of union u, and the object of that case.
-#[cycle(emit_body_emit_choice_emit_content_emit_direct_emit_direct_list_emit_directs_emit_element_emit_elements_emit_list_emit_marked_emit_measured_emit_objects_emit_part_emit_refer_emit_table)]
+#[cycle(walk)]
 fn emit_choice(
     b: &[u8],
     dir: &[u16],
@@ -1098,7 +1098,7 @@ fn emit_choice(
 }
 
 // A member or an element that leads to an object, present, behind its mark.
-#[cycle(emit_body_emit_choice_emit_content_emit_direct_emit_direct_list_emit_directs_emit_element_emit_elements_emit_list_emit_marked_emit_measured_emit_objects_emit_part_emit_refer_emit_table)]
+#[cycle(walk)]
 fn emit_body(
     b: &[u8],
     dir: &[u16],
@@ -1134,7 +1134,7 @@ fn emit_body(
 }
 
 // A member or an element that leads to an object: its mark, and what the mark says comes next.
-#[cycle(emit_body_emit_choice_emit_content_emit_direct_emit_direct_list_emit_directs_emit_element_emit_elements_emit_list_emit_marked_emit_measured_emit_objects_emit_part_emit_refer_emit_table)]
+#[cycle(walk)]
 fn emit_part(
     b: &[u8],
     dir: &[u16],
@@ -1171,7 +1171,7 @@ fn emit_part(
 }
 
 // An element with its mark.
-#[cycle(emit_body_emit_choice_emit_content_emit_direct_emit_direct_list_emit_directs_emit_element_emit_elements_emit_list_emit_marked_emit_measured_emit_objects_emit_part_emit_refer_emit_table)]
+#[cycle(walk)]
 fn emit_element(
     b: &[u8],
     dir: &[u16],
@@ -1195,7 +1195,7 @@ fn emit_element(
 }
 
 // The content of table t.
-#[cycle(emit_body_emit_choice_emit_content_emit_direct_emit_direct_list_emit_directs_emit_element_emit_elements_emit_list_emit_marked_emit_measured_emit_objects_emit_part_emit_refer_emit_table)]
+#[cycle(walk)]
 fn emit_table(
     b: &[u8],
     dir: &[u16],
@@ -1241,7 +1241,7 @@ fn emit_table(
 
 // ---- lists
 // An object that an element refers to, with its mark; n is its known size.
-#[cycle(emit_body_emit_choice_emit_content_emit_direct_emit_direct_list_emit_directs_emit_element_emit_elements_emit_list_emit_marked_emit_measured_emit_objects_emit_part_emit_refer_emit_table)]
+#[cycle(walk)]
 fn emit_marked(
     b: &[u8],
     dir: &[u16],
@@ -1276,7 +1276,7 @@ fn emit_marked(
 }
 
 // n elements that refer to objects.
-#[cycle(emit_body_emit_choice_emit_content_emit_direct_emit_direct_list_emit_directs_emit_element_emit_elements_emit_list_emit_marked_emit_measured_emit_objects_emit_part_emit_refer_emit_table)]
+#[cycle(walk)]
 fn emit_objects(
     b: &[u8],
     dir: &[u16],
@@ -1310,7 +1310,7 @@ fn emit_objects(
 }
 
 // n elements with their marks.
-#[cycle(emit_body_emit_choice_emit_content_emit_direct_emit_direct_list_emit_directs_emit_element_emit_elements_emit_list_emit_marked_emit_measured_emit_objects_emit_part_emit_refer_emit_table)]
+#[cycle(walk)]
 fn emit_elements(
     b: &[u8],
     dir: &[u16],
@@ -1343,7 +1343,7 @@ fn emit_elements(
 }
 
 // The content of list i. Integers of one byte are stored as bytes are.
-#[cycle(emit_body_emit_choice_emit_content_emit_direct_emit_direct_list_emit_directs_emit_element_emit_elements_emit_list_emit_marked_emit_measured_emit_objects_emit_part_emit_refer_emit_table)]
+#[cycle(walk)]
 fn emit_list(
     b: &[u8],
     dir: &[u16],
@@ -1380,7 +1380,7 @@ fn emit_list(
 
 // ---- direct lists
 // An element of a direct list of table t: its members where it stands, its bools in bytes of its own.
-#[cycle(emit_body_emit_choice_emit_content_emit_direct_emit_direct_list_emit_directs_emit_element_emit_elements_emit_list_emit_marked_emit_measured_emit_objects_emit_part_emit_refer_emit_table)]
+#[cycle(walk)]
 fn emit_direct(
     b: &[u8],
     dir: &[u16],
@@ -1409,7 +1409,7 @@ fn emit_direct(
 }
 
 // n elements of a direct list of table t.
-#[cycle(emit_body_emit_choice_emit_content_emit_direct_emit_direct_list_emit_directs_emit_element_emit_elements_emit_list_emit_marked_emit_measured_emit_objects_emit_part_emit_refer_emit_table)]
+#[cycle(walk)]
 fn emit_directs(
     b: &[u8],
     dir: &[u16],
@@ -1442,7 +1442,7 @@ fn emit_directs(
 }
 
 // The content of a direct list of table t.
-#[cycle(emit_body_emit_choice_emit_content_emit_direct_emit_direct_list_emit_directs_emit_element_emit_elements_emit_list_emit_marked_emit_measured_emit_objects_emit_part_emit_refer_emit_table)]
+#[cycle(walk)]
 fn emit_direct_list(
     b: &[u8],
     dir: &[u16],
@@ -1468,7 +1468,7 @@ fn emit_direct_list(
 }
 
 // An object's content, where d objects may stand below each other, this one counted.
-#[cycle(emit_body_emit_choice_emit_content_emit_direct_emit_direct_list_emit_directs_emit_element_emit_elements_emit_list_emit_marked_emit_measured_emit_objects_emit_part_emit_refer_emit_table)]
+#[cycle(walk)]
 fn emit_content(
     b: &[u8],
     dir: &[u16],

@@ -1,0 +1,12 @@
+use native.Mathlib.Omega.{arith}
+use borrow.Author.Tests.{le-ltb, lt-ltb}
+use Rattle.coding.specs.Layout as L
+use Rattle.message_layout.proofs.after_bit.Goals as goal
+
+pub returns-then-bit-lt8 : goal.returns-then-bit-lt8
+unfolding L.after_bit
+returns-then-bit-lt8 c = (simp (lt-ltb _ _ c.if-bit-lt8.true), record { end = omega arith; byte = omega arith; bit = omega arith })
+
+pub returns-else-bit-lt8 : goal.returns-else-bit-lt8
+unfolding L.after_bit
+returns-else-bit-lt8 c = (simp (le-ltb _ _ c.if-bit-lt8.false), record { end = omega arith; byte = omega arith; bit = omega arith })
