@@ -4,7 +4,8 @@
 // hold whole, or with a length over 64 KiB, ends the run.
 #![tactic(auto)]
 
-ghost use Rattle.std.specs.Prelude.{◌≡◌, ◌≤◌, length, take};
+ghost use Rattle.std.specs.Prelude.{◌≡◌, ◌≤◌, ◌<◌, length, take};
+ghost use Rattle.std.specs.Io.KnownBytes.{Consumes};
 ghost use Rattle.coding.specs.Walk as W;
 
 use coding::{Budget, Verdict};
@@ -17,6 +18,8 @@ use std::io::Read;
 fn load<R: Read>(file: &mut R, buf: &mut [u8], count: usize) -> usize
     ensures bound { result ≤ length buf.new }
     ensures prefix { result ≡ length (take result buf.new) }
+    ensures all_or_none { 0 < result → result ≡ count }
+    ensures bytes { 0 < result → Consumes (R.remaining file.old) (R.remaining file.new) (take result buf.new) }
 {
     if buf.len() < count {
         return 0;

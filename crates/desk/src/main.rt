@@ -3,7 +3,7 @@
 // counts as one that is not lawful: 1 or 2.
 #![tactic(auto)]
 
-ghost use Rattle.std.specs.Prelude.{◌≡◌, ◌≤◌, length, take};
+ghost use Rattle.std.specs.Prelude.{◌≡◌, ◌≤◌, ◌<◌, length, take, IfSome};
 ghost use Rattle.coding.specs.Walk as W;
 
 use coding::{Budget, Verdict};
@@ -18,6 +18,7 @@ use std::rt::Files;
 fn whole<R: Read>(file: &mut R, buf: &mut [u8]) -> usize
     ensures bound { result ≤ length buf.new }
     ensures prefix { result ≡ length (take result buf.new) }
+    ensures bytes { 0 < result → IfSome (R.remaining file.old) (λ xs. xs ≡ take result buf.new) }
 {
     let mut done = 0;
     while done < buf.len() {
