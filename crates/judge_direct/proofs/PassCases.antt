@@ -210,4 +210,5 @@ count_deep d o S m t w n at s r z e f = by n z (f ∙ ap (λ (k : ℕ). Left.cou
 
     by : (k : ℕ) → (k ≡ 0 → ⊥) → r ≡ Left.counted (within 0) O.Text (ByOffset at) s → r ≡ W.directs (Left.visit d o S m) t w k at s
     by zero y g = absurd (y refl)
-    by (suc k) y g = rw e (g ∙ ends k (ltb 0 s.visits) (W.directs (Left.visit 0 o S m) t w k (at + w)))
+    by (suc k) y g =
+        subst (λ (v : ℕ). r ≡ W.directs (Left.visit v o S m) t w (suc k) at s) (sym e) (g ∙ ends k (ltb 0 s.visits) (W.directs (Left.visit 0 o S m) t w k (at + w)))

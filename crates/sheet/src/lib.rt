@@ -9,7 +9,7 @@ ghost use Rattle.coding.specs.Positions as Po;
 ghost use Rattle.schema.specs.Directory.{Accepted, AcceptedUnder};
 ghost use Rattle.wire.specs.Sizes.{Width};
 ghost use Rattle.bitio.specs.Puts.{saturated};
-ghost use Rattle.sheet_walk.specs.Contracts as C;
+ghost use Rattle.sheet_walk.specs.Clauses as C;
 ghost use Rattle.sheet.specs.Answers as An;
 
 use coding::{Budget, ReadAnswer, Verdict};

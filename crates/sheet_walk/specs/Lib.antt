@@ -1,5 +1,5 @@
 -- What the contracts of this crate cite.
-pub mod Contracts
+pub mod Clauses
 pub mod MessageBits
 pub mod Readable
 pub mod Stepping

@@ -14,7 +14,7 @@ ghost use Rattle.schema.specs.Directory.{Accepted};
 ghost use Rattle.bitio.specs.Puts.{Room, Puts};
 ghost use Rattle.sheet_walk.specs.MessageBits as Bt;
 ghost use Rattle.sheet_walk.specs.Readable as D;
-ghost use Rattle.sheet_walk.specs.Contracts as C;
+ghost use Rattle.sheet_walk.specs.Clauses as C;
 ghost use Rattle.sheet_walk.specs.Stepping.{MemberAt, Coded, Small, behind, is_here};
 ghost use Rattle.wire.specs.Sizes.{WithinSize, Width, HasOffsets, HasUnions};
 
