@@ -1,5 +1,5 @@
 -- The value sheet: a tree's bits, and back. Paper 01 defines it under "Value sheet, packed most significant bit first".
-use Rattle.std.specs.Prelude.{ℕ, zero, suc, ◌+◌, ◌*◌, List, [], ◌∷◌, ◌++◌, Bool, true, false, ◌&&◌, not, length, take, drop, ltb, leb, eqb}
+use Rattle.std.specs.Prelude.{ℕ, zero, suc, ◌*◌, List, [], ◌∷◌, ◌++◌, Bool, true, false, ◌&&◌, not, length, take, drop, ltb, leb, eqb}
 use Rattle.std.proofs.Math.Option.{Option}
 use Rattle.std.proofs.Math.Option as Op
 use Rattle.coding.specs.Lists.{pick}

@@ -1,7 +1,7 @@
 -- The values of an accepted message are values that the schema can show.
-use Rattle.std.specs.Prelude.{◌≡◌, Bool, true, false, ◌&&◌, ◌⊎◌, length, get_or, take, drop, ltb, eqb}
+use Rattle.std.specs.Prelude.{◌≡◌, true, ◌&&◌, ◌⊎◌, length, get_or, take, drop, ltb, eqb}
 use Rattle.std.proofs.Math.Path.{refl, ap}
-use Rattle.std.proofs.Common.{sym, subst, inl, inr, length-take, length-drop, leb-true}
+use Rattle.std.proofs.Common.{inl, inr, length-take, length-drop, leb-true}
 use mathlib.Core.List.{List, [], ◌∷◌}
 use Rattle.std.proofs.lemmas.Bool.{false≢true}
 use Prim.Native.Nat.{ℕ, zero, suc, ◌+◌, ◌*◌, ◌^◌, ◌<◌, ◌≤◌}
@@ -14,7 +14,7 @@ use Rattle.coding.specs.Packed.{parse}
 use Rattle.coding.specs.Lawful.{lawful}
 use Rattle.coding.specs.Structs.{flat_width}
 use Rattle.coding.specs.Layout.{width, flat_is_bool, is_bool, begin, after_member}
-use Rattle.coding.specs.Step.{member_step, element_step, elements_size}
+use Rattle.coding.specs.Step.{elements_size}
 use Rattle.coding.specs.Walk as W
 use Rattle.coding.specs.Walk.{placed, magic, header_size, element_id, element_size, most_elements, start_size, content_size, content_length, end_ok, text_ok, fit_content, direct_header, header_tested, stands_in_place, fit_object, bytes_tested, refuse, refuse_part, and_then, follow_choice, follow, content, enter, with_content, admit, arrive, too_deep, one_more, counted, visit, root_place, nothing, walk, verdict_of, early, size_ok, start_ok, verdict}
 use Rattle.coding.specs.Value.{count}

@@ -16,7 +16,6 @@ use Rattle.coding.specs.Read as Read
 use Rattle.coding.specs.Bits as Bits
 use Rattle.coding.specs.Sheet as Sheet
 use Rattle.coding.specs.Message as Message
-use Rattle.coding.specs.declared.Budget.{Budget}
 use Rattle.coding.specs.declared.Verdict.{Verdict}
 use Rattle.coding.specs.declared.ReadAnswer.{ReadAnswer}
 use Rattle.demands.specs.Counter.{Case, N, M}

@@ -3,14 +3,14 @@
 -- When one schema appends to another, and what a sheet is without the appended members, is said in coding's Append. The
 -- second half is in NewerAgrees.
 use Rattle.std.specs.Prelude.{ℕ, ◌<◌, ◌≤◌, List, ◌≡◌, get_or, length, leb}
-use Rattle.std.proofs.Common.{arith, sym}
+use Rattle.std.proofs.Common.{sym}
 use Rattle.std.proofs.Math.Path.{ap, subst}
 use borrow.Author.Tests.{leb-true}
 use Rattle.coding.specs.Bytes.{deepest, largest}
 use Rattle.coding.specs.Packed.{parse}
 use Rattle.coding.specs.Read.{message_read}
 use Rattle.coding.specs.Sheet.{sheet_of}
-use Rattle.coding.specs.Walk.{start_size, header_size, size_ok, verdict_of, spent_of, verdict}
+use Rattle.coding.specs.Walk.{start_size, size_ok, verdict_of, spent_of, verdict}
 use Rattle.coding.specs.Message.{message_sheet}
 use Rattle.coding.specs.Append.{Appends, without, resheet, sheet_without}
 use Rattle.coding.specs.declared.Object.TheVariants as Ob

@@ -11,7 +11,7 @@ use Rattle.std.proofs.Math.Dec.{ltb}
 use borrow.Author.Tests.{lt-ltb, le-ltb}
 use Rattle.std.proofs.Math.ListN.{length}
 use Rattle.coding.specs.Bytes.{le, bit_at}
-use Rattle.coding.specs.Walk.{start_size, header_size}
+use Rattle.coding.specs.Walk.{start_size}
 use Rattle.coding.specs.Layout.{begin, bit_byte, bit_index, after_bit, after_bytes}
 use Rattle.coding.specs.Cells.{width, chain, Slots, pack_bits}
 use Rattle.coding.specs.Cells.Slots.{end, bytes, bit, reference, in_place, part}

@@ -5,7 +5,7 @@ use Rattle.std.proofs.Math.Path.{refl}
 use native.Mathlib.Omega.{arith}
 use Rattle.std.proofs.Math.ListN.{length, length-append}
 use Rattle.coding.specs.Bytes.{le, le_bytes}
-use Rattle.coding.specs.Walk.{start_size, header_size}
+use Rattle.coding.specs.Walk.{start_size}
 use Rattle.coding.specs.Cells.{Cells, width, chain, below, width_bytes, chain_bytes, below_bytes, layout}
 use Rattle.coding.specs.Cells.Cells.{end, bytes, reference, in_place, part}
 use Rattle.laws.specs.Sound.{All}

@@ -1,5 +1,5 @@
 -- "Seats at the counter": the twelve cases of paper 01 that are marked for proof, in a single table under one claim.
-use Rattle.std.specs.Prelude.{◌≡◌, refl, List, [], ◌∷◌, ◌++◌, map, ℕ, take, set, eqb}
+use Rattle.std.specs.Prelude.{◌≡◌, refl, List, [], ◌∷◌, map, ℕ, take, set, eqb}
 use Rattle.coding.specs.Lists as Lists
 use Rattle.coding.specs.Bytes as Bytes
 use Rattle.coding.specs.Utf8 as Utf8
@@ -15,7 +15,6 @@ use Rattle.coding.specs.Read as Read
 use Rattle.coding.specs.Bits as Bits
 use Rattle.coding.specs.Sheet as Sheet
 use Rattle.coding.specs.Message as Message
-use Rattle.coding.specs.declared.Budget.{Budget}
 use Rattle.coding.specs.declared.Verdict.{Verdict}
 
 -- "O is 00 00 00 01 00 4C 49 43 45 01 10 00; N is 00 00 00 01 00 4C 49 43 45 02 10 00 68 00."

@@ -14,7 +14,7 @@ use Rattle.coding.specs.Walk as Walk
 use Rattle.coding.specs.Field as Field
 use Rattle.coding.specs.declared.Answer.{Answer}
 use Rattle.demands.specs.Counter.{Case, N, M}
-use Rattle.demands.specs.Traps.{table, u48, rooted, in_place, enum, outcome, case}
+use Rattle.demands.specs.Traps.{u48, rooted, in_place, enum, outcome, case}
 
 -- ---- schemas and messages, beside N and M, which has its root at 10, a U16 in it, and a text of two bytes at 28
 -- the root has a reference to a second table with a U16; the same in place

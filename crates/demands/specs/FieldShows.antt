@@ -392,7 +392,8 @@ module _ (o : ℕ) (S : Schema) (m : List ℕ) (b : Budget) where
         → Shows o S m b (Field.along o S m f path) (E.part_along S p path)
     unfolding Field.along E.part_along
     along_shows h [] = h
-    along_shows h (j ∷ js) = along_shows (part_shows h j) js
+    along_shows {f = f} {p = p} h (j ∷ js) =
+        along_shows {f = Field.part_of o S m f j} {p = E.part_of S p j} (part_shows h j) js
 
 -- ---- what both show: the entry and the text
 module _ (o : ℕ) (S : Schema) (m : List ℕ) (b : Budget) where

@@ -12,7 +12,6 @@ use Rattle.coding.specs.Layout as Layout
 use Rattle.coding.specs.Step as Step
 use Rattle.coding.specs.Walk as Walk
 use Rattle.coding.specs.Field as Field
-use Rattle.coding.specs.declared.Budget.{Budget}
 use Rattle.coding.specs.declared.Verdict.{Verdict}
 use Rattle.coding.specs.declared.Answer.{Answer}
 use Rattle.demands.specs.Counter.{Case, N, M}

@@ -8,7 +8,7 @@ use Rattle.coding.specs.Lists.{pick}
 use Rattle.coding.specs.Bytes.{le, deepest}
 use Rattle.coding.specs.Schema.{Schema, table_of}
 use Rattle.coding.specs.Layout.{begin, after_member}
-use Rattle.coding.specs.Walk.{placed, magic, header_size, element_id, element_size, most_elements, start_size, content_size, content_length, end_ok, text_ok, fit_content, direct_header, header_tested, stands_in_place, fit_object, bytes_tested, refuse, and_then, Child, refuse_part, follow_choice, follow, members, elements, directs, content, enter, with_content, admit, arrive, one_more, counted, visit, root_place, nothing, walk}
+use Rattle.coding.specs.Walk.{placed, magic, header_size, element_id, element_size, most_elements, start_size, content_size, content_length, end_ok, text_ok, fit_content, direct_header, header_tested, stands_in_place, fit_object, bytes_tested, refuse, and_then, Child, follow_choice, follow, members, elements, directs, content, enter, with_content, admit, arrive, one_more, counted, visit, root_place, nothing, walk}
 use Rattle.coding.specs.Append.{Extends, rest, more, KindAppends, MemberAppends, SchemaAppends}
 use Rattle.coding.specs.declared.Object.{Object}
 use Rattle.coding.specs.declared.Object.TheVariants as Ob

@@ -1,7 +1,7 @@
 -- Demand 3, second half: whatever message the writer made under the older schema, the newer accepts with every budget with
 -- which the older does (and spends the same of both); the newer's sheet is the older's with the added members, as bytes.
 -- What a sheet is with the added members is said in coding's Append; which messages are plain in PlainMessage.
-use Rattle.std.specs.Prelude.{ℕ, ◌<◌, List, ◌≡◌, length, leb}
+use Rattle.std.specs.Prelude.{ℕ, List, ◌≡◌, length, leb}
 use Rattle.std.proofs.Common.{ap}
 use Rattle.std.proofs.Math.Option.{some}
 use borrow.Author.Tests.{leb-true}
@@ -9,7 +9,7 @@ use Rattle.coding.specs.Bytes.{deepest, largest}
 use Rattle.coding.specs.Packed.{parse}
 use Rattle.coding.specs.Read.{message_read}
 use Rattle.coding.specs.Sheet.{sheet_of, tree_of}
-use Rattle.coding.specs.Walk.{start_size, header_size, size_ok, verdict}
+use Rattle.coding.specs.Walk.{start_size, size_ok, verdict}
 use Rattle.coding.specs.Message.{message, written, message_sheet}
 use Rattle.coding.specs.Append.{Appends, with_added, resheet, sheet_with}
 use Rattle.coding.specs.declared.Object.TheVariants as Ob

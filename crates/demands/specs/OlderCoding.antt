@@ -1,6 +1,6 @@
 -- The older coding at the counter: cases worked out by hand from 002 and from 02, K5. All bytes are given in full, so that
 -- each can be compared with the document.
-use Rattle.std.specs.Prelude.{◌≡◌, refl, List, [], ◌∷◌, ◌++◌, map, ℕ, eqb, take}
+use Rattle.std.specs.Prelude.{◌≡◌, refl, List, [], ◌∷◌, map, ℕ, eqb, take}
 use Rattle.coding.specs.Lists as Lists
 use Rattle.coding.specs.Bytes as Bytes
 use Rattle.coding.specs.Utf8 as Utf8
@@ -17,7 +17,6 @@ use Rattle.coding.specs.Bits as Bits
 use Rattle.coding.specs.Sheet as Sheet
 use Rattle.coding.specs.Cells as Cells
 use Rattle.coding.specs.Message as Message
-use Rattle.coding.specs.declared.Budget.{Budget}
 use Rattle.coding.specs.declared.Verdict.{Verdict}
 use Rattle.demands.specs.Counter.{Case}
 

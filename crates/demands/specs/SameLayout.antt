@@ -6,7 +6,7 @@ use Rattle.std.specs.Prelude.{Bool, ◌≡◌, get_or}
 use Rattle.std.proofs.Math.Bool.{◌&&◌}
 use Rattle.std.proofs.Math.Path.{refl, ap, ap₂}
 use Rattle.std.proofs.Math.ListN.{length}
-use Rattle.coding.specs.Schema.{Schema, Table, struct_of, element_of, cases_of, table_of}
+use Rattle.coding.specs.Schema.{Schema, struct_of, element_of, cases_of, table_of}
 use Rattle.coding.specs.Structs.{flat_width, total, size_by, struct_size, flat_ok, flats_ok, ok_by, always, struct_ok}
 use Rattle.coding.specs.Layout.{bit_slot, flat_is_bool, is_bool, width, flat_takes_flag, takes_flag, has_flag, after_flag, slot_of, after_value, member_slot, after_member}
 use Rattle.coding.specs.Step.{element_place, elements_size}

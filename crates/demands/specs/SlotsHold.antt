@@ -7,7 +7,7 @@ use native.Mathlib.Omega.{arith}
 use Rattle.std.proofs.Math.Nat.{div-div-eq-div-mul}
 use Rattle.std.proofs.Math.ListN.{length, get_or}
 use Rattle.coding.specs.Bytes.{le, bit_at}
-use Rattle.coding.specs.Walk.{start_size, header_size}
+use Rattle.coding.specs.Walk.{start_size}
 use Rattle.coding.specs.Cells.{width, chain, Slots, gather, pack_bits}
 use Rattle.coding.specs.Cells.Slots.{end, bytes, bit, reference, in_place, part}
 use Rattle.laws.specs.Sound.{All}

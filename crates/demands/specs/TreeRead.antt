@@ -32,7 +32,7 @@ module _ (below : Below) (o : ℕ) (S : Schema) (m : List ℕ) (child : Child)
   members-read (no_member f u) = refl
   members-read (members h hs) = ap₂ (λ (x : Value) (xs : Values). x then xs) (step-read h) (members-read hs)
 
-  elements-read : {start i : ℕ} {k : Kind} {vs : Values} → ElementsHold below o S m start k i vs
+  elements-read : {start : ℕ} {k : Kind} {i : ℕ} {vs : Values} → ElementsHold below o S m start k i vs
       → elements_read child o S m start k (count vs) i ≡ vs
   unfolding elements_read count
   elements-read no-element = refl

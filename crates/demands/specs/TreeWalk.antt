@@ -140,7 +140,7 @@ module _ (below : Below) (o : ℕ) (S : Schema) (m : List ℕ) (b : Budget) (chi
       pass_then b (part_lengths lengths S r.kind v) (members_lengths lengths S rs vs) (follow child holder j (member_step o S m start n c r))
       (members child o S m holder start n (after_member o S r c) (j + 1) rs) (step-passes holder j h) (members-pass holder (j + 1) hs)
 
-  elements-pass : {start i : ℕ} {k : Kind} {vs : Values} (holder : ℕ) → ElementsHold below o S m start k i vs
+  elements-pass : {start : ℕ} {k : Kind} {i : ℕ} {vs : Values} (holder : ℕ) → ElementsHold below o S m start k i vs
       → Passes b (elements_lengths lengths S k vs) (elements child o S m holder start k (count vs) i)
   unfolding elements elements_lengths count
   elements-pass holder no-element = pass_none b

@@ -1,5 +1,5 @@
 -- Cases of RFC 3629 by computation: the examples of its section 7 with their values, and what it does not allow.
-use Rattle.std.specs.Prelude.{ℕ, ◌≡◌, refl, Bool, true, false, List, [], ◌∷◌, map}
+use Rattle.std.specs.Prelude.{ℕ, ◌≡◌, refl, true, false, List, [], ◌∷◌, map}
 use Rattle.coding.specs.Utf8 as Utf8
 use Rattle.demands.specs.Utf8Encoding.{encode, encode_all}
 

@@ -106,7 +106,7 @@ module _ (below : Below) (P : Objects) (inner : (ob : Object) (v : Value) (p : P
   members_plain_lem {start} (T.no_member {c = c} e u) h = record { size = sym e; clear = λ j l k. unused_bit m start c j u l k }
   members_plain_lem (T.members s ss) h = (step-plain s h.0, members_plain_lem ss h.1)
 
-  elements-plain : {start i : ℕ} {k : Kind} {vs : Values} → ElementsHold below o S m start k i vs → AllKnown vs
+  elements-plain : {start : ℕ} {k : Kind} {i : ℕ} {vs : Values} → ElementsHold below o S m start k i vs → AllKnown vs
       → elements_plain P o S m start k (count vs) i
   unfolding elements_plain Known count
   elements-plain T.no-element h = tt

@@ -14,7 +14,7 @@ use Rattle.coding.specs.Lists.{pick}
 use Rattle.coding.specs.Walk.{start_size, stands_in_place}
 use Rattle.coding.specs.Value.{Value, absent, number, row, chosen, present, as_number, as_object}
 use Rattle.coding.specs.Cells.{Slots}
-use Rattle.coding.specs.Cells.Slots.{bytes, bit, in_place}
+use Rattle.coding.specs.Cells.Slots.{bytes, in_place}
 use Rattle.coding.specs.Message.{length_of, number_or, struct_bytes, zeros, flat_slots, Planner, object_slots, refer_slots, value_slots}
 use Rattle.coding.specs.declared.Flat.{Flat}
 use Rattle.coding.specs.declared.Flat.TheVariants as F

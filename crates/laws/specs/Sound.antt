@@ -1,5 +1,5 @@
 -- What a lawful schema gives to the proofs, in the terms of the typed schema. `lawful` is shown once to give it.
-use Rattle.std.specs.Prelude.{◌≡◌, List, [], ◌∷◌, Bool, true, false, ◌⊎◌, ℕ, ◌+◌, ◌^◌, ◌<◌, ◌≤◌, length}
+use Rattle.std.specs.Prelude.{◌≡◌, List, [], ◌∷◌, true, ◌⊎◌, ℕ, ◌+◌, ◌^◌, ◌<◌, ◌≤◌, length}
 use Rattle.coding.specs.Lists.{pick}
 use Rattle.coding.specs.Schema.{Schema, struct_of, element_of, cases_of, table_of}
 use Rattle.coding.specs.Structs.{struct_size}

@@ -1,5 +1,5 @@
 -- What a sound schema says of one record, and of an index, as those who go over the records use it.
-use Rattle.std.specs.Prelude.{◌≡◌, List, ℕ, pred, ◌+◌, ◌<◌, ◌≤◌, length}
+use Rattle.std.specs.Prelude.{List, ℕ, pred, ◌<◌, ◌≤◌, length}
 use Rattle.std.proofs.Common.{arith}
 use Rattle.coding.specs.Schema.{Schema, struct_of, cases_of, table_of, field_of, case_of, member_of}
 use Rattle.coding.specs.Packed as P

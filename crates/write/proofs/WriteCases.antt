@@ -14,7 +14,6 @@ use Rattle.coding.specs.Bytes.{largest, deepest}
 use Rattle.coding.specs.Bits.{bits, value, all_zero}
 use Rattle.coding.specs.Packed.{parse}
 use Rattle.coding.specs.Walk.{start_size}
-use Rattle.coding.specs.Lawful.{lawful}
 use Rattle.coding.specs.Sheet.{fail, got}
 use Rattle.coding.specs.Message as M
 use Rattle.coding.specs.declared.Object.{Object}

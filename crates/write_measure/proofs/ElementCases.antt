@@ -5,12 +5,11 @@ use mathlib.Core.List.{List}
 use Prim.Native.Nat.{ℕ, ◌+◌, ◌-◌, ◌*◌, ◌<◌, ◌≤◌}
 use native.Mathlib.Omega.{arith}
 use lib.ListN.{length, drop}
-use Rattle.coding.specs.Lists.{pick}
 use Rattle.coding.specs.Bits.{bits}
 use Rattle.coding.specs.Packed as P
 use Rattle.coding.specs.Schema as Sc
 use Rattle.coding.specs.Schema.{Schema}
-use Rattle.coding.specs.Sheet.{Parsed, fail, got, bind, unmarked, flat_unmarked}
+use Rattle.coding.specs.Sheet.{Parsed, unmarked, flat_unmarked}
 use Rattle.coding.specs.declared.Flat.{Flat}
 use Rattle.coding.specs.declared.Flat.TheVariants.{Boolean, Integer, Float, Enumerated, Struct}
 use Rattle.coding.specs.declared.Object.{Object}
@@ -22,7 +21,7 @@ use Rattle.laws.specs.Sound.{FlatScalar, NoStruct}
 use Rattle.schema.specs.Directory.{Accepted, accepted_sound}
 use Rattle.schema.specs.Kinds.{is_blob}
 use Rattle.bitio.specs.Taken.{TakenNumber}
-use Rattle.write_measure.specs.Survey.{survey_flat, survey_struct, survey_unknown_flat, flat_may_lack, plain, opened, joined, Surveyor, plain_of, survey_part, survey_elements, survey}
+use Rattle.write_measure.specs.Survey.{survey_flat, survey_struct, survey_unknown_flat, flat_may_lack, plain, opened, joined, Surveyor, survey_part, survey_elements, survey}
 use Rattle.write_measure.specs.Surveyed.{TestedAt, Small, Fits, SurveyedAt}
 use Rattle.write_measure.specs.UnmarkedElements.{unmarked_bits, passed, unmarked-elements}
 use Rattle.write_measure.specs.BlobReferred.{BlobEnd, blob_referred}

@@ -25,7 +25,7 @@ use Rattle.laws.specs.Sound.{FlatSound, ObjectSound, KindSound}
 use Rattle.laws.specs.SoundAt.{case_sound-at, struct_index, union_index}
 use Rattle.schema.specs.Directory.{Accepted, accepted_sound}
 use Rattle.bitio.specs.Taken.{TakenNumber, TakenBytes}
-use Rattle.write_measure.specs.Survey.{test_number, test_if, any_number, float_fine, below_count, above_count, survey_mark, survey_flat, survey_struct, survey_unknown_flat, plain, opened, blob_opened, referred, Surveyor, plain_of, survey_object, survey_choice, survey_body, survey_unknown, may_lack, survey_part, survey_blob, survey}
+use Rattle.write_measure.specs.Survey.{test_number, test_if, any_number, float_fine, below_count, above_count, survey_mark, survey_flat, survey_struct, survey_unknown_flat, plain, blob_opened, referred, Surveyor, plain_of, survey_object, survey_choice, survey_body, survey_unknown, may_lack, survey_part, survey_blob, survey}
 use Rattle.laws.specs.Bits.{bits-length}
 use Rattle.write_measure.specs.UnmarkedElements.{unmarked_bits, flat_unmarked_bits, passed}
 use Rattle.write_measure.specs.BlobReferred.{BlobEnd, blob_referred, blob_is}

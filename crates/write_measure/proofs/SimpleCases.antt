@@ -29,7 +29,7 @@ use Rattle.coding.specs.declared.Member.{Member}
 use Rattle.laws.specs.Sound.{FlatSound, MemberSound}
 use Rattle.laws.specs.RecordSound.{width_range}
 use Rattle.bitio.specs.Taken.{TakenNumber, TakenBytes}
-use Rattle.write_measure.specs.Survey.{test_number, test_if, any_number, float_fine, below_count, survey_mark, survey_flat, survey_struct, survey_unknown_flat, flat_may_lack, may_lack, plain, opened, blob_opened, joined, referred, Surveyor, plain_of, survey_blob, survey_body, survey_part, survey_members, survey_content, survey}
+use Rattle.write_measure.specs.Survey.{test_number, test_if, any_number, float_fine, below_count, survey_mark, survey_flat, survey_struct, survey_unknown_flat, flat_may_lack, may_lack, plain, blob_opened, joined, referred, Surveyor, plain_of, survey_blob, survey_body, survey_part, survey_members, survey_content, survey}
 use Rattle.write_measure.specs.Surveyed.{TestedAt, Small, Fits, SurveyedAt}
 use Rattle.write_measure.specs.BlobReferred.{BlobEnd, blob_referred}
 use Rattle.write_measure.specs.SimpleMembers.{flat_part, joined_part, LeftAt, WholeBytes, flat-part_is, members-joined}

@@ -19,7 +19,7 @@ use Rattle.coding.specs.Layout.{flat_is_bool, is_bool, has_flag, begin, after_bi
 use Rattle.coding.specs.Step.{elements_size}
 use Rattle.coding.specs.Value.{Value, Values, none, ◌then◌, present, as_number, as_row, as_object, first, others, count}
 use Rattle.coding.specs.Cells.{width, Slots, pack_bits}
-use Rattle.coding.specs.Cells.Slots.{end, bytes, bit}
+use Rattle.coding.specs.Cells.Slots.{bytes, bit}
 use Rattle.coding.specs.Message.{length_of, number_or, flat_bytes, flats_bytes, bytes_by, no_bytes, struct_bytes, zeros, flat_slots, Planner, refer_slots, value_slots, flag_of, member_slots, members_slots, elements_slots}
 use Rattle.coding.specs.declared.Flat.{Flat}
 use Rattle.coding.specs.declared.Flat.TheVariants as F

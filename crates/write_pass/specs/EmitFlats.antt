@@ -7,7 +7,7 @@ use Rattle.coding.specs.Lists.{pick}
 use Rattle.coding.specs.Schema.{Schema, struct_of}
 use Rattle.coding.specs.Structs.{struct_size}
 use Rattle.coding.specs.Value.{Value, Values, absent, unknown, number, row, present, as_number, as_row, first, others}
-use Rattle.coding.specs.Cells.Slots.{end, bytes}
+use Rattle.coding.specs.Cells.Slots.{end}
 use Rattle.coding.specs.Sheet.{Parsed, fail, got, bind, take_number, take_value, take_if, unknown_enum, take_unknown_enum, take_enum, take_flat, take_field, take_fields, take_by, take_nothing, take_struct, take_unknown_flat}
 use Rattle.coding.specs.Message.{number_or, flat_bytes, flats_bytes, bytes_by, no_bytes, struct_bytes, zeros, flat_slots}
 use Rattle.coding.specs.declared.Flat.{Flat}

@@ -4,7 +4,6 @@ use Rattle.std.proofs.Math.Path.{refl}
 use Rattle.std.proofs.Common.{sym, ap, ◌∙◌}
 use Prim.Native.Nat.{ℕ, zero, suc}
 use Rattle.coding.specs.Schema.{Schema}
-use Rattle.coding.specs.Lawful.{lawful}
 use Rattle.coding.specs.Sheet.{Parsed, fail, got, decode}
 use Rattle.coding.specs.Message.{writable, plan}
 use Rattle.coding.specs.declared.Object.{Object}

@@ -1,0 +1,19 @@
+use borrow.Author.Rules.{rules}
+use Rattle.write_measure.proofs.PartCases.{kind-flat}
+use Rattle.write_pass.proofs.EmitPartCases.{terminal-blob, body-flat, body_terminal, body_no_terminal}
+use Rattle.write_pass.proofs.terminal_body.Goals as goal
+
+pub emit_flat-requires : goal.emit_flat-requires
+emit_flat-requires c = search (kind-flat, rules)
+
+pub refer_terminal-requires : goal.refer_terminal-requires
+refer_terminal-requires c = search (terminal-blob, rules)
+
+pub returns-in-OfFlat : goal.returns-in-OfFlat
+returns-in-OfFlat c = search body-flat
+
+pub returns-in-OfObject : goal.returns-in-OfObject
+returns-in-OfObject c = search body_terminal
+
+pub returns-in-OfUnion : goal.returns-in-OfUnion
+returns-in-OfUnion c = search body_no_terminal
