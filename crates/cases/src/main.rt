@@ -4,21 +4,30 @@
 // hold whole, or with a length over 64 KiB, ends the run.
 #![tactic(auto)]
 
-ghost use Rattle.std.specs.Prelude.{◌≡◌};
+ghost use Rattle.std.specs.Prelude.{◌≡◌, ◌≤◌, ◌<◌, length, take};
+ghost use Rattle.std.specs.Io.KnownBytes.{Consumes};
 ghost use Rattle.coding.specs.Walk as W;
-ghost use Rattle.io.specs.Counts.{IsPrefixLen};
 
 use coding::{Budget, Verdict};
-use libc::STDOUT_FILENO;
+use std::fs::File;
+use std::io;
+use std::io::Read;
 
-// How many of so many bytes were read to the start of buf; none where buf is too small.
-fn load(fd: i32, buf: &mut [u8], count: usize) -> usize
-    ensures { IsPrefixLen result buf.new }
+// How many bytes of the file were read to the start of buf: so many as are wanted, or none where the file does not give them all
+// or buf is too small.
+fn load<R: Read>(file: &mut R, buf: &mut [u8], count: usize) -> usize
+    ensures bound { result ≤ length buf.new }
+    ensures prefix { result ≡ length (take result buf.new) }
+    ensures all_or_none { 0 < result → result ≡ count }
+    ensures bytes { 0 < result → Consumes (R.remaining file.old) (R.remaining file.new) (take result buf.new) }
 {
     if buf.len() < count {
         return 0;
     }
-    io::read_full(fd, &mut buf[..count])
+    match file.read_exact(&mut buf[..count]) {
+        Ok(()) => count,
+        Err(_) => 0,
+    }
 }
 
 fn wide(x: u8) -> u32 {
@@ -34,12 +43,8 @@ fn number(head: &[u8], at: u8) -> u32 {
         | wide(wire::byte(head, i + 3)) << 24
 }
 
-fn print(n: u64, end: u8) {
-    let mut digits = [0u8; 20];
-    let k = io::decimal(n, &mut digits);
-    io::write_all(STDOUT_FILENO, &digits[..k]);
-    let last = [end];
-    io::write_all(STDOUT_FILENO, &last);
+fn print(rt: &impl Print, n: u64, end: char) -> io::Result<()> {
+    print!(rt; "{n}{end}")
 }
 
 // The verdict by a schema, whose table of positions is made here. No table has more than 64 times 64 rows of twelve bytes, so that there is
@@ -57,51 +62,59 @@ fn verdict(schema: &[u8], message: &[u8], visits: u32, o: usize) -> Verdict
     judge::judge(schema, &rows[..n], message, budget, o)
 }
 
-fn print_verdict(v: Verdict) {
-    print(v.number as u64, b' ');
-    print(v.place as u64, b' ');
-    print(v.visits as u64, b'\n');
+fn print_verdict(rt: &impl Print, v: Verdict) -> io::Result<()> {
+    print(rt, v.number as u64, ' ')?;
+    print(rt, v.place as u64, ' ')?;
+    print(rt, v.visits as u64, '\n')
 }
 
 // One case, whose width, lengths and budget were read: answers whether the file holds it whole.
-fn judged(fd: i32, schema_length: usize, message_length: usize, budget: u32, o: usize) -> bool {
+fn judged<R: Read>(
+    rt: &impl Print,
+    file: &mut R,
+    schema_length: usize,
+    message_length: usize,
+    budget: u32,
+    o: usize,
+) -> io::Result<bool> {
     let mut schema = [0u8; 65536];
-    let s = load(fd, &mut schema, schema_length);
+    let s = load(file, &mut schema, schema_length);
     let mut message = [0u8; 65536];
-    let m = load(fd, &mut message, message_length);
+    let m = load(file, &mut message, message_length);
     if s != schema_length || m != message_length {
-        return false;
+        return Ok(false);
     }
-    print_verdict(verdict(&schema[..s], &message[..m], budget, o));
-    true
+    print_verdict(rt, verdict(&schema[..s], &message[..m], budget, o))?;
+    Ok(true)
 }
 
 // One case: answers whether the file holds it whole.
-fn one(fd: i32) -> bool {
+fn one<R: Read>(rt: &impl Print, file: &mut R) -> io::Result<bool> {
     let mut head = [0u8; 16];
-    let n = io::read_full(fd, &mut head);
+    let n = load(file, &mut head, 16);
     if n != 16 {
-        return false;
+        return Ok(false);
     }
     let o = wire::width_of(number(&head[..n], 0));
     let schema_length = number(&head[..n], 4) as usize;
     let message_length = number(&head[..n], 8) as usize;
-    judged(fd, schema_length, message_length, number(&head[..n], 12), o)
+    let budget = number(&head[..n], 12);
+    judged(rt, file, schema_length, message_length, budget, o)
 }
 
-// A proved loop has to end, and nothing says that a file does: the turns are counted down from more than any file has.
-fn all(fd: i32) {
-    let mut turns = u32::MAX;
-    while 0 < turns && one(fd) {
-        turns -= 1;
+// A proved loop has to end, and nothing says that a file does: the turns are as many as no file has cases.
+fn all<R: Read>(rt: &impl Print, file: &mut R) -> io::Result<()> {
+    for _ in 0..u32::MAX {
+        if !one(rt, file)? {
+            break;
+        }
     }
+    Ok(())
 }
 
-fn main() {
-    let fd = os::open_read(b"cases.bin");
-    if fd < 0 {
-        return;
+fn main(rt: HostRuntime) -> io::Result<()> {
+    match File::open(&rt, "cases.bin") {
+        Ok(mut file) => all(&rt, &mut file),
+        Err(_) => Ok(()),
     }
-    all(fd);
-    libc::close(fd);
 }

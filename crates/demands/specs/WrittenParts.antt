@@ -50,7 +50,7 @@ pub record Inner (o : ℕ) (S : Schema) (m : List ℕ) (P : Planner) (G : Object
       → At o m at begin z e (P (O.Table t) v)
       → below (O.Table t) v (InPlace at (fixed_size o S (table_of S t).members)) × (at + fixed_size o S (table_of S t).members ≡ z)
 
--- the rest behind a part: its in_place content is where it was, unless the part has one itself
+-- the rest behind a part: its in-place content is where it was, unless the part has one itself
 abbrev pub Behind : ℕ → List ℕ → ℕ → Cursor → ℕ → ℕ → Bool → Slots → Type 0
 Behind o m start c z e inplace rest = (e' : ℕ) × (inplace ≡ false → e' ≡ e) × At o m start c z e' rest
 

@@ -101,7 +101,7 @@ module _ (o : ℕ) (S : Schema) (sound : Sound S) (m : List ℕ) (P : Planner) (
       (no_float-value w _ ok
       (holds-le m w (start + c.end) (no_float w) (no_float_small w ok) (at_bytes o m start c z e (le_bytes w (no_float w)) rest a).0))
 
-  -- ---- what a reference or an in_place length leads to
+  -- ---- what a reference or an in-place length leads to
   object_none : (ob : Object) (inplace : Bool) (tail x : ℕ) → x ≡ 0 → object_step ob inplace tail x ≡ St.Absent
   unfolding object_step
   object_none ob inplace tail x e = rw e

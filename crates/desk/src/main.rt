@@ -3,54 +3,48 @@
 // counts as one that is not lawful: 1 or 2.
 #![tactic(auto)]
 
-ghost use Rattle.std.specs.Prelude.{◌≡◌};
+ghost use Rattle.std.specs.Prelude.{◌≡◌, ◌≤◌, ◌<◌, length, take, IfSome};
 ghost use Rattle.coding.specs.Walk as W;
-ghost use Rattle.io.specs.Counts.{IsPrefixLen};
 
 use coding::{Budget, Verdict};
-use libc::STDOUT_FILENO;
+use std::fs::File;
+use std::io;
+use std::io::Read;
+use std::rt::Files;
 
 // How many bytes the open file has, all of them read to the start of buf; 0 where a read fails or buf is filled: then the file
-// is unreadable, or has more bytes than a file may have. Each answer of C's read is tested, since a count alone cannot tell a
+// is unreadable, or has more bytes than a file may have. Each answer of a read is tested, since a count alone cannot tell a
 // failure from the file's end.
-fn whole(fd: i32, buf: &mut [u8]) -> usize
-    ensures { IsPrefixLen result buf.new }
+fn whole<R: Read>(file: &mut R, buf: &mut [u8]) -> usize
+    ensures bound { result ≤ length buf.new }
+    ensures prefix { result ≡ length (take result buf.new) }
+    ensures bytes { 0 < result → IfSome (R.remaining file.old) (λ xs. xs ≡ take result buf.new) }
 {
     let mut done = 0;
     while done < buf.len() {
-        let got = libc::read(fd, &mut buf[done..]);
-        if got < 0 {
-            return 0;
+        match file.read(&mut buf[done..]) {
+            Ok(0) => return done,
+            Ok(n) => done += n,
+            Err(_) => return 0,
         }
-        let n = io::count(got, &buf[done..]);
-        if n == 0 {
-            return done;
-        }
-        done += n;
     }
     0
 }
 
 // How many bytes of the file were read to buf, which holds one more than a file may have; 0 where the file cannot be read to
 // its end or is too long. No bytes are no lawful schema, and no lawful message.
-fn load(path: &[u8], buf: &mut [u8]) -> usize
-    ensures { IsPrefixLen result buf.new }
+fn load<F: Files>(files: &F, path: &str, buf: &mut [u8]) -> usize
+    ensures bound { result ≤ length buf.new }
+    ensures prefix { result ≡ length (take result buf.new) }
 {
-    let fd = os::open_read(path);
-    if fd < 0 {
-        return 0;
+    match File::open(files, path) {
+        Ok(mut file) => whole(&mut file, buf),
+        Err(_) => 0,
     }
-    let n = whole(fd, buf);
-    libc::close(fd);
-    n
 }
 
-fn print(n: u64, end: u8) {
-    let mut digits = [0u8; 20];
-    let k = io::decimal(n, &mut digits);
-    io::write_all(STDOUT_FILENO, &digits[..k]);
-    let last = [end];
-    io::write_all(STDOUT_FILENO, &last);
+fn print(rt: &impl Print, n: u64, end: char) -> io::Result<()> {
+    print!(rt; "{n}{end}")
 }
 
 // The verdict by a schema, whose table of positions is made here. No table has more than 64 times 64 rows of twelve bytes, so that there is
@@ -68,13 +62,13 @@ fn verdict(schema: &[u8], message: &[u8]) -> Verdict
     judge::judge(schema, &rows[..n], message, budget, wire::U48)
 }
 
-fn main() {
+fn main(rt: HostRuntime) -> io::Result<()> {
     let mut schema = [0u8; 65537];
-    let s = load(b"schema.bin", &mut schema);
+    let s = load(&rt, "schema.bin", &mut schema);
     let mut message = [0u8; 65537];
-    let m = load(b"message.bin", &mut message);
+    let m = load(&rt, "message.bin", &mut message);
     let v = verdict(&schema[..s], &message[..m]);
-    print(v.number as u64, b' ');
-    print(v.place as u64, b' ');
-    print(v.visits as u64, b'\n');
+    print(&rt, v.number as u64, ' ')?;
+    print(&rt, v.place as u64, ' ')?;
+    print(&rt, v.visits as u64, '\n')
 }

@@ -1,8 +1,8 @@
 -- The widths of flat values and kinds: the ways out, and their bounds.
-use mathlib.Core.Path.{◌≡◌, refl, sym, ap, ◌∙◌, subst}
+use mathlib.Core.Path.{◌≡◌, subst}
 use mathlib.Core.Bool.{Bool, true, false}
 use mathlib.Core.List.{List}
-use mathlib.Core.Logic.{◌⊎◌, ⊎_elim}
+use mathlib.Core.Logic.{⊎_elim}
 use Prim.Native.Nat.{ℕ, ◌+◌, ◌*◌, ◌/◌, ◌<◌, ◌≤◌}
 use native.Mathlib.Nat.{mul-le-mul_right}
 use native.Mathlib.Omega.{arith}
@@ -18,7 +18,7 @@ use Rattle.coding.specs.declared.Object.{Object}
 use Rattle.coding.specs.declared.Kind.{Kind}
 use Rattle.coding.specs.declared.Kind.TheVariants.{OfFlat, OfObject, OfUnion}
 use Rattle.coding.specs.declared.Member.{Member}
-use Rattle.laws.specs.Sound.{Sound, FlatSound, KindSound, MemberSound}
+use Rattle.laws.specs.Sound.{FlatSound, KindSound, MemberSound}
 use Rattle.laws.specs.Parsed.{structs-length}
 use Rattle.schema.specs.Directory.{Accepted, accepted_sound}
 

@@ -1,5 +1,5 @@
 -- A step as judging needs it: where it leads, or why it is refused. A value, an unknown number and a struct lead nowhere.
-use Rattle.std.specs.Prelude.{◌≡◌, ℕ, ◌+◌, ◌^◌, ◌<◌, ◌≤◌, Bool, true, false, List, leb, eqb, length}
+use Rattle.std.specs.Prelude.{◌≡◌, ℕ, ◌+◌, ◌^◌, ◌<◌, ◌≤◌, Bool, List, leb, eqb, length}
 use Rattle.coding.specs.Lists.{pick}
 use Rattle.coding.specs.Bytes.{le, bit_at}
 use Rattle.coding.specs.Schema.{Schema, cases_of}

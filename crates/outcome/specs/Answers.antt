@@ -1,7 +1,7 @@
 -- A walker's answer; what an arrival is charged; the walk's definitions by what the walkers are given. A walker is given, and
 -- answers, what is left of both allowances.
 -- `o` is the width of an offset in bytes.
-use Rattle.std.specs.Prelude.{ℕ, zero, suc, ◌-◌, List, [], eqb}
+use Rattle.std.specs.Prelude.{ℕ, zero, suc, ◌-◌, List, eqb}
 use Rattle.coding.specs.Lists.{pick}
 use Rattle.coding.specs.Schema as Sc
 use Rattle.coding.specs.Packed as P

@@ -33,15 +33,6 @@ use Rattle.demands.specs.SheetText.{sheet_text}
 use Rattle.demands.specs.UnionsInPlace.{writable_before, tree_free}
 use Rattle.laws.specs.PositionRows.{member_total}
 
--- ---- parameters
--- what a parameter holds as the function is called
-abbrev pub given : {X Y : Type 0} → Both (Bor X) Y → X
-given x = x.entry.now
-
--- what a lent buffer holds as the function returns
-abbrev pub after : {X Y : Type 0} → Both Y (Bor X) → X
-after x = x.exit.now
-
 -- ---- the table of member positions (02, K10)
 -- the schema that a reader goes by, of a schema's bytes and the table that is lent with them: with the table that is built from it the
 -- schema itself, with any other no bytes, which are lawful under no coding

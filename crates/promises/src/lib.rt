@@ -27,7 +27,7 @@ ghost use Rattle.demands.specs.Spending.{Affords};
 ghost use Rattle.demands.specs.Texts.{IsText};
 ghost use Rattle.demands.specs.WrittenSheet.{WrittenAs};
 ghost use Rattle.promises.specs.Reader.{Stepped};
-ghost use Rattle.promises.specs.Words.{given, after, Accepts, costs, arrivals, contents, values, tree_of, Fits, NoRoom, HandsOut, KeepsOnRefusal, CutDown};
+ghost use Rattle.promises.specs.Words.{Accepts, costs, arrivals, contents, values, tree_of, Fits, NoRoom, HandsOut, KeepsOnRefusal, CutDown};
 ghost use Rattle.promises.specs.Words.{lent, TableOf, members_of, row_place, old_placement};
 ghost use Rattle.promises.specs.Words.{entry_at, text_at, LeadsToList, HoldsAnswers, LawfulSheet, Writable, layout_of, was_writable, UnionInPlace, NoUnionInPlace};
 
@@ -38,14 +38,14 @@ use field_reader::ListReader;
 // The table of member positions.
 pub fn table_made(schema: &[u8], out: &mut [u8], o: usize) -> WriteAnswer
     // the answer and the output are the definition's, of refusals too
-    ensures whole { result ≡ Po.positions_answer o (given schema) (given out) }
-    ensures output { after out ≡ Po.positions_out o (given schema) (given out) }
+    ensures whole { result ≡ Po.positions_answer o schema.now out.old }
+    ensures output { out.new ≡ Po.positions_out o schema.now out.old }
     // "built once from a lawful schema under its coding (else 1, then 14, nothing written)"
-    ensures unlawful { lawful o (given schema) ≡ false → (result ≡ record { number = 1; length = 0 }) × (after out ≡ given out) }
-    ensures room { lawful o (given schema) ≡ true → length (given out) < length (Po.positions_of o (given schema)) → (result ≡ record { number = 14; length = 0 }) × (after out ≡ given out) }
-    ensures made { lawful o (given schema) ≡ true → length (Po.positions_of o (given schema)) ≤ length (given out) → (result ≡ record { number = 0; length = length (Po.positions_of o (given schema)) }) × (after out ≡ Po.positions_of o (given schema) ++ drop (length (Po.positions_of o (given schema))) (given out)) }
+    ensures unlawful { lawful o schema.now ≡ false → (result ≡ record { number = 1; length = 0 }) × (out.new ≡ out.old) }
+    ensures room { lawful o schema.now ≡ true → length out.old < length (Po.positions_of o schema.now) → (result ≡ record { number = 14; length = 0 }) × (out.new ≡ out.old) }
+    ensures made { lawful o schema.now ≡ true → length (Po.positions_of o schema.now) ≤ length out.old → (result ≡ record { number = 0; length = length (Po.positions_of o schema.now) }) × (out.new ≡ Po.positions_of o schema.now ++ drop (length (Po.positions_of o schema.now)) out.old) }
     // "for each table member in schema order three little-endian U32s": "Each row equals what the old rule gives"
-    ensures rows { result.number ≡ 0 → (i j : ℕ) → i < table_count (given schema) → j < length (members_of (given schema) i) → RowSays o (parse (given schema)) (take result.length (after out)) (row_place (given schema) i j) (member_of (parse (given schema)) i j) (old_placement o (given schema) i j) }
+    ensures rows { result.number ≡ 0 → (i j : ℕ) → i < table_count schema.now → j < length (members_of schema.now i) → RowSays o (parse schema.now) (take result.length out.new) (row_place schema.now i j) (member_of (parse schema.now) i j) (old_placement o schema.now i j) }
 {
     positions::positions(schema, out, o)
 }
@@ -66,13 +66,13 @@ pub fn table_then_judge(
     o: usize,
 ) -> TableAndVerdict
     // the answer, the room and the verdict are the definition's, of refusals too; the table is what was made in the room
-    ensures table { result.table ≡ Po.positions_answer o (given schema) (given room) }
-    ensures made { after room ≡ Po.positions_out o (given schema) (given room) }
-    ensures verdict { result.verdict ≡ W.verdict o (Po.with_table o (given schema) (take result.table.length (after room))) (given message) budget }
+    ensures table { result.table ≡ Po.positions_answer o schema.now room.old }
+    ensures made { room.new ≡ Po.positions_out o schema.now room.old }
+    ensures verdict { result.verdict ≡ W.verdict o (Po.with_table o schema.now (take result.table.length room.new)) message.now budget }
     // "with that table every public answer is equal to the old one": the verdict, of a schema that is not lawful too
-    ensures old { (result.table.number ≡ 14 → ⊥) → result.verdict ≡ W.verdict o (given schema) (given message) budget }
+    ensures old { (result.table.number ≡ 14 → ⊥) → result.verdict ≡ W.verdict o schema.now message.now budget }
     // and the answers of all other readers
-    ensures every { (result.table.number ≡ 14 → ⊥) → SameAnswers o (Po.with_table o (given schema) (take result.table.length (after room))) (given schema) }
+    ensures every { (result.table.number ≡ 14 → ⊥) → SameAnswers o (Po.with_table o schema.now (take result.table.length room.new)) schema.now }
 {
     let table = positions::positions(schema, room, o);
     let n = table.length;
@@ -83,17 +83,17 @@ pub fn table_then_judge(
 // Judging a message.
 pub fn judged(schema: &[u8], rows: &[u8], message: &[u8], budget: Budget, o: usize) -> Verdict
     // "Judging answers number, place and visits", the member and the content (02, K6 and K7), as the walk gives them, of refusals too
-    ensures whole { result ≡ W.verdict o (lent o schema rows) (given message) budget }
+    ensures whole { result ≡ W.verdict o (lent o schema rows) message.now budget }
     // a message is accepted exactly when every object reached by its schema is lawful, within depth and budget
-    ensures exactly { (result.number ≡ 0) ↔ LawfulMessage o (lent o schema rows) (given message) budget }
+    ensures exactly { (result.number ≡ 0) ↔ LawfulMessage o (lent o schema rows) message.now budget }
     // "visits in the verdict equal the arrivals of the walk's definition, shared objects counted each time"
-    ensures arrivals { result.number ≡ 0 → result.visits ≡ arrivals o (lent o schema rows) (given message) }
+    ensures arrivals { result.number ≡ 0 → result.visits ≡ arrivals o (lent o schema rows) message.now }
     // "Each arrival whose content fits adds its content length": the content in the verdict is that of these arrivals together
-    ensures content { result.number ≡ 0 → result.content ≡ contents o (lent o schema rows) (given message) }
+    ensures content { result.number ≡ 0 → result.content ≡ contents o (lent o schema rows) message.now }
     // "with that table every public answer is equal to the old one"
-    ensures right_table { TableOf o (given schema) (given rows) → result ≡ W.verdict o (given schema) (given message) budget }
+    ensures right_table { TableOf o schema.now rows.now → result ≡ W.verdict o schema.now message.now budget }
     // "Any other table handed in gets refusal 1"
-    ensures other_table { (TableOf o (given schema) (given rows) → ⊥) → result ≡ W.early 1 }
+    ensures other_table { (TableOf o schema.now rows.now → ⊥) → result ≡ W.early 1 }
 {
     judge::judge(schema, rows, message, budget, o)
 }
@@ -108,27 +108,27 @@ pub fn read(
     o: usize,
 ) -> ReadAnswer
     // the answer and the output are the definition's, of refusals too
-    ensures whole { result ≡ M.read_answer o (lent o schema rows) (given message) budget (given out) }
-    ensures output { after out ≡ M.read_out o (lent o schema rows) (given message) budget (given out) }
+    ensures whole { result ≡ M.read_answer o (lent o schema rows) message.now budget out.old }
+    ensures output { out.new ≡ M.read_out o (lent o schema rows) message.now budget out.old }
     // a message is accepted exactly when every object reached by its schema is lawful, within depth and budget: number 0 comes
     // exactly then, if the sheet is within the size and the room
-    ensures exactly { (result.verdict.number ≡ 0) ↔ ((LawfulMessage o (lent o schema rows) (given message) budget) × (Fits (M.message_sheet o (lent o schema rows) (given message)) (given out))) }
+    ensures exactly { (result.verdict.number ≡ 0) ↔ ((LawfulMessage o (lent o schema rows) message.now budget) × (Fits (M.message_sheet o (lent o schema rows) message.now) out.old)) }
     // "visits in the verdict equal the arrivals of the walk's definition, shared objects counted each time"
-    ensures arrivals { result.verdict.number ≡ 0 → result.verdict.visits ≡ arrivals o (lent o schema rows) (given message) }
+    ensures arrivals { result.verdict.number ≡ 0 → result.verdict.visits ≡ arrivals o (lent o schema rows) message.now }
     // "Each arrival whose content fits adds its content length": the content in the verdict is that of these arrivals together
-    ensures content { result.verdict.number ≡ 0 → result.verdict.content ≡ contents o (lent o schema rows) (given message) }
+    ensures content { result.verdict.number ≡ 0 → result.verdict.content ≡ contents o (lent o schema rows) message.now }
     // "then 14 with the full visits", and the full content
-    ensures room { LawfulMessage o (lent o schema rows) (given message) budget → NoRoom (M.message_sheet o (lent o schema rows) (given message)) (given out) → result ≡ record { verdict = W.at_zero 14 (costs o (lent o schema rows) (given message)); length = 0 } }
+    ensures room { LawfulMessage o (lent o schema rows) message.now budget → NoRoom (M.message_sheet o (lent o schema rows) message.now) out.old → result ≡ record { verdict = W.at_zero 14 (costs o (lent o schema rows) message.now); length = 0 } }
     // "on refusal the length is 0 and the output is unchanged"
-    ensures kept { KeepsOnRefusal result.verdict.number result.length (given out) (after out) }
+    ensures kept { KeepsOnRefusal result.verdict.number result.length out.old out.new }
     // what is handed out is the sheet of the rules
-    ensures sheet { HandsOut result (after out) (M.message_sheet o (lent o schema rows) (given message)) }
+    ensures sheet { HandsOut result out.new (M.message_sheet o (lent o schema rows) message.now) }
     // the sheet of an accepted message is lawful: what is handed out decodes to the values that the message holds
-    ensures lawful { result.verdict.number ≡ 0 → tree_of (lent o schema rows) (take result.length (after out)) ≡ some (values o (lent o schema rows) (given message)) }
+    ensures lawful { result.verdict.number ≡ 0 → tree_of (lent o schema rows) (take result.length out.new) ≡ some (values o (lent o schema rows) message.now) }
     // "with that table every public answer is equal to the old one"
-    ensures right_table { TableOf o (given schema) (given rows) → (result ≡ M.read_answer o (given schema) (given message) budget (given out)) × (after out ≡ M.read_out o (given schema) (given message) budget (given out)) }
+    ensures right_table { TableOf o schema.now rows.now → (result ≡ M.read_answer o schema.now message.now budget out.old) × (out.new ≡ M.read_out o schema.now message.now budget out.old) }
     // "Any other table handed in gets refusal 1"
-    ensures other_table { (TableOf o (given schema) (given rows) → ⊥) → (result ≡ record { verdict = W.early 1; length = 0 }) × (after out ≡ given out) }
+    ensures other_table { (TableOf o schema.now rows.now → ⊥) → (result ≡ record { verdict = W.early 1; length = 0 }) × (out.new ≡ out.old) }
 {
     sheet::read(schema, rows, message, budget, out, o)
 }
@@ -156,8 +156,8 @@ pub fn judged_with_more(
     o: usize,
 ) -> Stories
     // each verdict is the definition's
-    ensures by_less { result.less ≡ W.verdict o (lent o schema rows) (given message) less }
-    ensures by_more { result.more ≡ W.verdict o (lent o schema rows) (given message) more }
+    ensures by_less { result.less ≡ W.verdict o (lent o schema rows) message.now less }
+    ensures by_more { result.more ≡ W.verdict o (lent o schema rows) message.now more }
     // "raising either or both leaves an acceptance with the same visits and content, and leaves every refusal other than 4 and 17 the
     // same in all its parts"
     ensures same { Raises less more → Settled result.less → result.more ≡ result.less }
@@ -186,15 +186,15 @@ pub fn read_with_more(
     o: usize,
 ) -> Readings
     // each answer and each output is the definition's
-    ensures by_less { result.less ≡ M.read_answer o (lent o schema rows) (given message) less (given first) }
-    ensures less_out { after first ≡ M.read_out o (lent o schema rows) (given message) less (given first) }
-    ensures by_more { result.more ≡ M.read_answer o (lent o schema rows) (given message) more (given second) }
-    ensures more_out { after second ≡ M.read_out o (lent o schema rows) (given message) more (given second) }
+    ensures by_less { result.less ≡ M.read_answer o (lent o schema rows) message.now less first.old }
+    ensures less_out { first.new ≡ M.read_out o (lent o schema rows) message.now less first.old }
+    ensures by_more { result.more ≡ M.read_answer o (lent o schema rows) message.now more second.old }
+    ensures more_out { second.new ≡ M.read_out o (lent o schema rows) message.now more second.old }
     // "raising either or both leaves an acceptance with the same visits and content, and leaves every refusal other than 4 and 17 the
     // same in all its parts": the whole answer, with as much room
-    ensures same { Raises less more → Settled result.less.verdict → length (given second) ≡ length (given first) → result.more ≡ result.less }
+    ensures same { Raises less more → Settled result.less.verdict → length second.old ≡ length first.old → result.more ≡ result.less }
     // and the output, if it held the same
-    ensures output { Raises less more → Settled result.less.verdict → given second ≡ given first → after second ≡ after first }
+    ensures output { Raises less more → Settled result.less.verdict → second.old ≡ first.old → second.new ≡ first.new }
 {
     let by_less = sheet::read(schema, rows, message, less, first, o);
     let by_more = sheet::read(schema, rows, message, more, second, o);
@@ -222,10 +222,10 @@ pub fn judged_by_both(
     o: usize,
 ) -> Verdicts
     // each verdict is the definition's
-    ensures by_older { result.older ≡ W.verdict o (lent o older oldrows) (given message) budget }
-    ensures by_newer { result.newer ≡ W.verdict o (lent o newer newrows) (given message) budget }
+    ensures by_older { result.older ≡ W.verdict o (lent o older oldrows) message.now budget }
+    ensures by_newer { result.newer ≡ W.verdict o (lent o newer newrows) message.now budget }
     // whatever bytes the newer accepts with a budget, the older accepts with the same budget, and spends no more of either
-    ensures accepts { Ap.Appends o (given older) (given newer) → TableOf o (given older) (given oldrows) → TableOf o (given newer) (given newrows) → result.newer.number ≡ 0 → (result.older.number ≡ 0) × (result.older.visits ≤ result.newer.visits) × (result.older.content ≤ result.newer.content) }
+    ensures accepts { Ap.Appends o older.now newer.now → TableOf o older.now oldrows.now → TableOf o newer.now newrows.now → result.newer.number ≡ 0 → (result.older.number ≡ 0) × (result.older.visits ≤ result.newer.visits) × (result.older.content ≤ result.newer.content) }
 {
     let by_older = judge::judge(older, oldrows, message, budget, o);
     let by_newer = judge::judge(newer, newrows, message, budget, o);
@@ -255,17 +255,17 @@ pub fn read_by_both(
     o: usize,
 ) -> Sheets
     // each answer and each output is the definition's
-    ensures by_older { result.older ≡ M.read_answer o (lent o older oldrows) (given message) budget (given first) }
-    ensures older_out { after first ≡ M.read_out o (lent o older oldrows) (given message) budget (given first) }
-    ensures by_newer { result.newer ≡ M.read_answer o (lent o newer newrows) (given message) budget (given second) }
-    ensures newer_out { after second ≡ M.read_out o (lent o newer newrows) (given message) budget (given second) }
+    ensures by_older { result.older ≡ M.read_answer o (lent o older oldrows) message.now budget first.old }
+    ensures older_out { first.new ≡ M.read_out o (lent o older oldrows) message.now budget first.old }
+    ensures by_newer { result.newer ≡ M.read_answer o (lent o newer newrows) message.now budget second.old }
+    ensures newer_out { second.new ≡ M.read_out o (lent o newer newrows) message.now budget second.old }
     // what the newer accepts, its sheet having room or not, the older reads if the older's sheet has room
-    ensures accepts { Ap.Appends o (given older) (given newer) → TableOf o (given older) (given oldrows) → Accepts o (given newer) (given message) budget → (result.older.verdict.number ≡ 0) ⊎ (result.older.verdict.number ≡ 14) }
+    ensures accepts { Ap.Appends o older.now newer.now → TableOf o older.now oldrows.now → Accepts o newer.now message.now budget → (result.older.verdict.number ≡ 0) ⊎ (result.older.verdict.number ≡ 14) }
     // the older's sheet is the newer's sheet without the appended members, as bytes; "the rules give a sheet over the size too",
     // so the newer's sheet is the one of the rules, handed out or not
-    ensures without { Ap.Appends o (given older) (given newer) → TableOf o (given older) (given oldrows) → Accepts o (given newer) (given message) budget → HandsOut result.older (after first) (Ap.sheet_without (given older) (given newer) (M.message_sheet o (given newer) (given message))) }
+    ensures without { Ap.Appends o older.now newer.now → TableOf o older.now oldrows.now → Accepts o newer.now message.now budget → HandsOut result.older first.new (Ap.sheet_without older.now newer.now (M.message_sheet o newer.now message.now)) }
     // and where it is handed out, it stands in the second output
-    ensures handed { HandsOut result.newer (after second) (M.message_sheet o (lent o newer newrows) (given message)) }
+    ensures handed { HandsOut result.newer second.new (M.message_sheet o (lent o newer newrows) message.now) }
 {
     let by_older = sheet::read(older, oldrows, message, budget, first, o);
     let by_newer = sheet::read(newer, newrows, message, budget, second, o);
@@ -300,18 +300,18 @@ pub fn read_by_three(
     o: usize,
 ) -> ThreeSheets
     // each answer and each output is the definition's
-    ensures by_oldest { result.oldest ≡ M.read_answer o (lent o oldest oldrows) (given message) budget (given first) }
-    ensures oldest_out { after first ≡ M.read_out o (lent o oldest oldrows) (given message) budget (given first) }
-    ensures by_middle { result.middle ≡ M.read_answer o (lent o middle midrows) (given message) budget (given second) }
-    ensures middle_out { after second ≡ M.read_out o (lent o middle midrows) (given message) budget (given second) }
-    ensures by_newest { result.newest ≡ M.read_answer o (lent o newest newrows) (given message) budget (given third) }
-    ensures newest_out { after third ≡ M.read_out o (lent o newest newrows) (given message) budget (given third) }
+    ensures by_oldest { result.oldest ≡ M.read_answer o (lent o oldest oldrows) message.now budget first.old }
+    ensures oldest_out { first.new ≡ M.read_out o (lent o oldest oldrows) message.now budget first.old }
+    ensures by_middle { result.middle ≡ M.read_answer o (lent o middle midrows) message.now budget second.old }
+    ensures middle_out { second.new ≡ M.read_out o (lent o middle midrows) message.now budget second.old }
+    ensures by_newest { result.newest ≡ M.read_answer o (lent o newest newrows) message.now budget third.old }
+    ensures newest_out { third.new ≡ M.read_out o (lent o newest newrows) message.now budget third.old }
     // "for three schemas, each appending to the one before, and given room and bytes the newest accepts: the newest sheet cut down to
     // the middle schema and then to the oldest, as demand 3 does it, equals the newest cut down to the oldest at once, and both are the
     // oldest reader's sheet"; the newest sheet is the one of the rules, handed out or not
-    ensures three { Ap.Appends o (given oldest) (given middle) → Ap.Appends o (given middle) (given newest) → TableOf o (given oldest) (given oldrows) → TableOf o (given middle) (given midrows) → Accepts o (given newest) (given message) budget → CutDown result.oldest (after first) result.middle (after second) (given oldest) (given middle) (given newest) (M.message_sheet o (given newest) (given message)) }
+    ensures three { Ap.Appends o oldest.now middle.now → Ap.Appends o middle.now newest.now → TableOf o oldest.now oldrows.now → TableOf o middle.now midrows.now → Accepts o newest.now message.now budget → CutDown result.oldest first.new result.middle second.new oldest.now middle.now newest.now (M.message_sheet o newest.now message.now) }
     // and where it is handed out, it stands in the third output
-    ensures handed { HandsOut result.newest (after third) (M.message_sheet o (lent o newest newrows) (given message)) }
+    ensures handed { HandsOut result.newest third.new (M.message_sheet o (lent o newest newrows) message.now) }
 {
     let by_oldest = sheet::read(oldest, oldrows, message, budget, first, o);
     let by_middle = sheet::read(middle, midrows, message, budget, second, o);
@@ -341,19 +341,19 @@ pub fn field_and_sheet(
     o: usize,
 ) -> FieldAndSheet
     // the field, the sheet's answer and the output are the definition's, at every path and of refusals too
-    ensures field { result.field ≡ F.field o (lent o schema rows) (given message) (given path) }
-    ensures sheet { result.sheet ≡ M.read_answer o (lent o schema rows) (given message) budget (given out) }
-    ensures output { after out ≡ M.read_out o (lent o schema rows) (given message) budget (given out) }
+    ensures field { result.field ≡ F.field o (lent o schema rows) message.now path.now }
+    ensures sheet { result.sheet ≡ M.read_answer o (lent o schema rows) message.now budget out.old }
+    ensures output { out.new ≡ M.read_out o (lent o schema rows) message.now budget out.old }
     // "On an accepted message it equals the sheet's entry.": of the sheet that the rules give, handed out or not
-    ensures entry { Accepts o (lent o schema rows) (given message) budget → length (given path) ≤ 96 → shown result.field ≡ entry_at (lent o schema rows) (M.message_sheet o (lent o schema rows) (given message)) (given path) }
+    ensures entry { Accepts o (lent o schema rows) message.now budget → length path.now ≤ 96 → shown result.field ≡ entry_at (lent o schema rows) (M.message_sheet o (lent o schema rows) message.now) path.now }
     // and where it is handed out, it stands in the output
-    ensures handed { HandsOut result.sheet (after out) (M.message_sheet o (lent o schema rows) (given message)) }
+    ensures handed { HandsOut result.sheet out.new (M.message_sheet o (lent o schema rows) message.now) }
     // on an accepted message no refusal comes but 15
-    ensures refused { Accepts o (lent o schema rows) (given message) budget → length (given path) ≤ 96 → (q : Refusal) → result.field ≡ Answer.Refused q → q.number ≡ 15 }
+    ensures refused { Accepts o (lent o schema rows) message.now budget → length path.now ≤ 96 → (q : Refusal) → result.field ≡ Answer.Refused q → q.number ≡ 15 }
     // "with that table every public answer is equal to the old one"
-    ensures right_table { TableOf o (given schema) (given rows) → result.field ≡ F.field o (given schema) (given message) (given path) }
+    ensures right_table { TableOf o schema.now rows.now → result.field ≡ F.field o schema.now message.now path.now }
     // "Any other table handed in gets refusal 1"
-    ensures other_table { (TableOf o (given schema) (given rows) → ⊥) → result.field ≡ Answer.Refused (W.refusal 1 0) }
+    ensures other_table { (TableOf o schema.now rows.now → ⊥) → result.field ≡ Answer.Refused (W.refusal 1 0) }
 {
     let answer = field::field(schema, rows, message, path, o);
     let read = sheet::read(schema, rows, message, budget, out, o);
@@ -381,23 +381,23 @@ pub fn text_and_sheet(
     o: usize,
 ) -> TextAndSheet
     // the part, the sheet's answer and the output are the definition's, at every path and of refusals too
-    ensures part { result.text ≡ F.field_span o (lent o schema rows) (given message) (given path) }
-    ensures sheet { result.sheet ≡ M.read_answer o (lent o schema rows) (given message) budget (given out) }
-    ensures output { after out ≡ M.read_out o (lent o schema rows) (given message) budget (given out) }
+    ensures part { result.text ≡ F.field_span o (lent o schema rows) message.now path.now }
+    ensures sheet { result.sheet ≡ M.read_answer o (lent o schema rows) message.now budget out.old }
+    ensures output { out.new ≡ M.read_out o (lent o schema rows) message.now budget out.old }
     // the part lies in the message
-    ensures within { result.text.start + result.text.length ≤ length (given message) }
+    ensures within { result.text.start + result.text.length ≤ length message.now }
     // "texts and bytes can be had as a part of the message": there is a part exactly where the field's answer is a text or bytes
-    ensures exactly { (result.text.there ≡ true) ↔ ((k at n : ℕ) × (F.field o (lent o schema rows) (given message) (given path) ≡ Answer.Object k at n) × IsText k) }
+    ensures exactly { (result.text.there ≡ true) ↔ ((k at n : ℕ) × (F.field o (lent o schema rows) message.now path.now ≡ Answer.Object k at n) × IsText k) }
     // and it has the answer's length
-    ensures long { (k at n : ℕ) → F.field o (lent o schema rows) (given message) (given path) ≡ Answer.Object k at n → IsText k → result.text.length ≡ n }
+    ensures long { (k at n : ℕ) → F.field o (lent o schema rows) message.now path.now ≡ Answer.Object k at n → IsText k → result.text.length ≡ n }
     // "On an accepted message it equals the sheet's entry.": it is the text of the sheet that the rules give, handed out or not
-    ensures text { Accepts o (lent o schema rows) (given message) budget → length (given path) ≤ 96 → F.text_of (given message) result.text ≡ text_at (lent o schema rows) (M.message_sheet o (lent o schema rows) (given message)) (given path) }
+    ensures text { Accepts o (lent o schema rows) message.now budget → length path.now ≤ 96 → F.text_of message.now result.text ≡ text_at (lent o schema rows) (M.message_sheet o (lent o schema rows) message.now) path.now }
     // and where the sheet is handed out, it stands in the output
-    ensures handed { HandsOut result.sheet (after out) (M.message_sheet o (lent o schema rows) (given message)) }
+    ensures handed { HandsOut result.sheet out.new (M.message_sheet o (lent o schema rows) message.now) }
     // "with that table every public answer is equal to the old one"
-    ensures right_table { TableOf o (given schema) (given rows) → result.text ≡ F.field_span o (given schema) (given message) (given path) }
+    ensures right_table { TableOf o schema.now rows.now → result.text ≡ F.field_span o schema.now message.now path.now }
     // "Any other table handed in gets refusal 1"
-    ensures other_table { (TableOf o (given schema) (given rows) → ⊥) → result.text ≡ F.no_span }
+    ensures other_table { (TableOf o schema.now rows.now → ⊥) → result.text ≡ F.no_span }
 {
     let text = field::text_span(schema, rows, message, path, o);
     let read = sheet::read(schema, rows, message, budget, out, o);
@@ -422,21 +422,21 @@ pub fn step_and_field(
     o: usize,
 ) -> StepAndField
     // the step's answer, where the reader goes and the field are the definition's
-    ensures step { result.step.answer ≡ F.reader_gives o (lent o schema rows) (given message) (given path) element }
-    ensures next { result.step.next ≡ F.reader_next (F.reader_count o (lent o schema rows) (given message) (given path)) element }
-    ensures field { result.field ≡ F.field o (lent o schema rows) (given message) (given whole) }
+    ensures step { result.step.answer ≡ F.reader_gives o (lent o schema rows) message.now path.now element }
+    ensures next { result.step.next ≡ F.reader_next (F.reader_count o (lent o schema rows) message.now path.now) element }
+    ensures field { result.field ≡ F.field o (lent o schema rows) message.now whole.now }
     // "Each step answers as that element's path would and moves on, refused or not"
-    ensures same { (ob : Object) (at start n left : ℕ) → LeadsToList o (lent o schema rows) (given message) (given path) ob at start n left → (given whole ≡ given path ++ element ∷ [] → result.step.answer ≡ result.field) × (element < n → result.step.next ≡ element + 1) }
+    ensures same { (ob : Object) (at start n left : ℕ) → LeadsToList o (lent o schema rows) message.now path.now ob at start n left → (whole.now ≡ path.now ++ element ∷ [] → result.step.answer ≡ result.field) × (element < n → result.step.next ≡ element + 1) }
     // "after the last it answers 15 at the list and stays"
-    ensures end { (ob : Object) (at start n left : ℕ) → LeadsToList o (lent o schema rows) (given message) (given path) ob at start n left → n ≤ element → result.step ≡ record { answer = Answer.Refused (W.refusal 15 at); next = element } }
+    ensures end { (ob : Object) (at start n left : ℕ) → LeadsToList o (lent o schema rows) message.now path.now ob at start n left → n ≤ element → result.step ≡ record { answer = Answer.Refused (W.refusal 15 at); next = element } }
     // "a refused path gives its own refusal"
-    ensures own { (q : Refusal) → F.field o (lent o schema rows) (given message) (given path) ≡ Answer.Refused q → result.step ≡ record { answer = Answer.Refused q; next = element } }
+    ensures own { (q : Refusal) → F.field o (lent o schema rows) message.now path.now ≡ Answer.Refused q → result.step ≡ record { answer = Answer.Refused q; next = element } }
     // "any other answer is 15 at 0"
-    ensures other { ((q : Refusal) → F.field o (lent o schema rows) (given message) (given path) ≡ Answer.Refused q → ⊥) → ((ob : Object) (at start n left : ℕ) → LeadsToList o (lent o schema rows) (given message) (given path) ob at start n left → ⊥) → result.step ≡ record { answer = Answer.Refused (W.refusal 15 0); next = element } }
+    ensures other { ((q : Refusal) → F.field o (lent o schema rows) message.now path.now ≡ Answer.Refused q → ⊥) → ((ob : Object) (at start n left : ℕ) → LeadsToList o (lent o schema rows) message.now path.now ob at start n left → ⊥) → result.step ≡ record { answer = Answer.Refused (W.refusal 15 0); next = element } }
     // "with that table every public answer is equal to the old one"
-    ensures right_table { TableOf o (given schema) (given rows) → (result.step.answer ≡ F.reader_gives o (given schema) (given message) (given path) element) × (result.step.next ≡ F.reader_next (F.reader_count o (given schema) (given message) (given path)) element) }
+    ensures right_table { TableOf o schema.now rows.now → (result.step.answer ≡ F.reader_gives o schema.now message.now path.now element) × (result.step.next ≡ F.reader_next (F.reader_count o schema.now message.now path.now) element) }
     // "Any other table handed in gets refusal 1"
-    ensures other_table { (TableOf o (given schema) (given rows) → ⊥) → result.step ≡ record { answer = Answer.Refused (W.refusal 1 0); next = element } }
+    ensures other_table { (TableOf o schema.now rows.now → ⊥) → result.step ≡ record { answer = Answer.Refused (W.refusal 1 0); next = element } }
 {
     let step = field_element::step(schema, rows, message, path, element, o);
     let answer = field::field(schema, rows, message, whole, o);
@@ -448,7 +448,7 @@ pub fn step_and_field(
 
 // The list reader that "keeps the message and its present place together": a step of it, of which `Stepped` says what is demanded.
 pub fn reader_step<'s, 'a, 'b, 'c, 'd>(r: &'s mut ListReader<'a, 'b, 'c, 'd>) -> Answer
-    ensures { Stepped (given r) result (after r) }
+    ensures { Stepped r.old result r.new }
 {
     field_reader::step(r)
 }
@@ -464,18 +464,18 @@ pub fn steps(
     o: usize,
 ) -> usize
     // the count and the output are the definition's
-    ensures whole { result ≡ F.reader_count o (lent o schema rows) (given message) (given path) }
-    ensures output { after out ≡ F.reader_over o (lent o schema rows) (given message) (given path) from (given out) }
+    ensures whole { result ≡ F.reader_count o (lent o schema rows) message.now path.now }
+    ensures output { out.new ≡ F.reader_over o (lent o schema rows) message.now path.now from out.old }
     // the count is the list's, and each step has the numbers of the answer at the element's path
-    ensures each { (ob : Object) (at start n left : ℕ) → LeadsToList o (lent o schema rows) (given message) (given path) ob at start n left → (result ≡ n) × (HoldsAnswers (after out) (length (given out) / 4) (λ k. F.field o (lent o schema rows) (given message) (given path ++ (from + k) ∷ []))) }
+    ensures each { (ob : Object) (at start n left : ℕ) → LeadsToList o (lent o schema rows) message.now path.now ob at start n left → (result ≡ n) × (HoldsAnswers out.new (length out.old / 4) (λ k. F.field o (lent o schema rows) message.now (path.now ++ (from + k) ∷ []))) }
     // "a refused path gives its own refusal": each step has its numbers, and the count is 0
-    ensures own { (q : Refusal) → F.field o (lent o schema rows) (given message) (given path) ≡ Answer.Refused q → (result ≡ 0) × (HoldsAnswers (after out) (length (given out) / 4) (λ _. Answer.Refused q)) }
+    ensures own { (q : Refusal) → F.field o (lent o schema rows) message.now path.now ≡ Answer.Refused q → (result ≡ 0) × (HoldsAnswers out.new (length out.old / 4) (λ _. Answer.Refused q)) }
     // "any other answer is 15 at 0": the same
-    ensures other { ((q : Refusal) → F.field o (lent o schema rows) (given message) (given path) ≡ Answer.Refused q → ⊥) → ((ob : Object) (at start n left : ℕ) → LeadsToList o (lent o schema rows) (given message) (given path) ob at start n left → ⊥) → (result ≡ 0) × (HoldsAnswers (after out) (length (given out) / 4) (λ _. Answer.Refused (W.refusal 15 0))) }
+    ensures other { ((q : Refusal) → F.field o (lent o schema rows) message.now path.now ≡ Answer.Refused q → ⊥) → ((ob : Object) (at start n left : ℕ) → LeadsToList o (lent o schema rows) message.now path.now ob at start n left → ⊥) → (result ≡ 0) × (HoldsAnswers out.new (length out.old / 4) (λ _. Answer.Refused (W.refusal 15 0))) }
     // "with that table every public answer is equal to the old one"
-    ensures right_table { TableOf o (given schema) (given rows) → (result ≡ F.reader_count o (given schema) (given message) (given path)) × (after out ≡ F.reader_over o (given schema) (given message) (given path) from (given out)) }
+    ensures right_table { TableOf o schema.now rows.now → (result ≡ F.reader_count o schema.now message.now path.now) × (out.new ≡ F.reader_over o schema.now message.now path.now from out.old) }
     // "Any other table handed in gets refusal 1"
-    ensures other_table { (TableOf o (given schema) (given rows) → ⊥) → (result ≡ 0) × (HoldsAnswers (after out) (length (given out) / 4) (λ _. Answer.Refused (W.refusal 1 0))) }
+    ensures other_table { (TableOf o schema.now rows.now → ⊥) → (result ≡ 0) × (HoldsAnswers out.new (length out.old / 4) (λ _. Answer.Refused (W.refusal 1 0))) }
 {
     field_list::read_list(schema, rows, message, path, from, out, o)
 }
@@ -483,19 +483,19 @@ pub fn steps(
 // Writing a message of a sheet.
 pub fn written(schema: &[u8], sheet: &[u8], out: &mut [u8], o: usize) -> WriteAnswer
     // the answer and the output are the definition's, of refusals too
-    ensures whole { result ≡ M.write_answer o (given schema) (given sheet) (given out) }
-    ensures output { after out ≡ M.write_out o (given schema) (given sheet) (given out) }
+    ensures whole { result ≡ M.write_answer o schema.now sheet.now out.old }
+    ensures output { out.new ≡ M.write_out o schema.now sheet.now out.old }
     // every writable sheet becomes the one message of the stated layout, within the size and given room
-    ensures every { (v : Value) → Writable o (given schema) (given sheet) v → Fits (layout_of o (given schema) v) (given out) → (result ≡ record { number = 0; length = length (layout_of o (given schema) v) }) × (after out ≡ layout_of o (given schema) v ++ drop (length (layout_of o (given schema) v)) (given out)) }
+    ensures every { (v : Value) → Writable o schema.now sheet.now v → Fits (layout_of o schema.now v) out.old → (result ≡ record { number = 0; length = length (layout_of o schema.now v) }) × (out.new ≡ layout_of o schema.now v ++ drop (length (layout_of o schema.now v)) out.old) }
     // and nothing else is written
-    ensures only { result.number ≡ 0 → WrittenAs o (given schema) (given sheet) (take result.length (after out)) }
+    ensures only { result.number ≡ 0 → WrittenAs o schema.now sheet.now (take result.length out.new) }
     // "on refusal the length is 0 and the output is unchanged"
-    ensures kept { KeepsOnRefusal result.number result.length (given out) (after out) }
+    ensures kept { KeepsOnRefusal result.number result.length out.old out.new }
     // 02, K12: "the writer refuses a present one under the 48-bit coding of document 000": a lawful sheet with a present union in place
     // is 12
-    ensures unions { (v : Value) → LawfulSheet o (given schema) (given sheet) v → o ≡ 6 → UnionInPlace (given schema) v → result ≡ record { number = 12; length = 0 } }
+    ensures unions { (v : Value) → LawfulSheet o schema.now sheet.now v → o ≡ 6 → UnionInPlace schema.now v → result ≡ record { number = 12; length = 0 } }
     // "absent is still written", "The 32-bit coding keeps them.": of any other lawful sheet 12 comes exactly where it came before
-    ensures others { (v : Value) → LawfulSheet o (given schema) (given sheet) v → (o ≡ 4) ⊎ NoUnionInPlace (given schema) v → (result.number ≡ 12) ↔ (was_writable o (given schema) v ≡ false) }
+    ensures others { (v : Value) → LawfulSheet o schema.now sheet.now v → (o ≡ 4) ⊎ NoUnionInPlace schema.now v → (result.number ≡ 12) ↔ (was_writable o schema.now v ≡ false) }
 {
     write::write(schema, sheet, out, o)
 }
@@ -518,20 +518,20 @@ pub fn write_then_read(
     o: usize,
 ) -> Trip
     // the answers, the room and the output are the definition's, of refusals too; what is read is what was written in the room
-    ensures written { result.written ≡ M.write_answer o (given schema) (given sheet) (given room) }
-    ensures message { after room ≡ M.write_out o (given schema) (given sheet) (given room) }
-    ensures read { result.read ≡ M.read_answer o (lent o schema rows) (take result.written.length (after room)) budget (given out) }
-    ensures output { after out ≡ M.read_out o (lent o schema rows) (take result.written.length (after room)) budget (given out) }
+    ensures written { result.written ≡ M.write_answer o schema.now sheet.now room.old }
+    ensures message { room.new ≡ M.write_out o schema.now sheet.now room.old }
+    ensures read { result.read ≡ M.read_answer o (lent o schema rows) (take result.written.length room.new) budget out.old }
+    ensures output { out.new ≡ M.read_out o (lent o schema rows) (take result.written.length room.new) budget out.old }
     // reading that message with enough budget gives the same sheet
-    ensures same { result.written.number ≡ 0 → TableOf o (given schema) (given rows) → Affords budget (enough o (given schema) (given sheet)) → length (given sheet) ≤ length (given out) → (result.read ≡ record { verdict = W.at_zero 0 (enough o (given schema) (given sheet)); length = length (given sheet) }) × (after out ≡ given sheet ++ drop (length (given sheet)) (given out)) }
+    ensures same { result.written.number ≡ 0 → TableOf o schema.now rows.now → Affords budget (enough o schema.now sheet.now) → length sheet.now ≤ length out.old → (result.read ≡ record { verdict = W.at_zero 0 (enough o schema.now sheet.now); length = length sheet.now }) × (out.new ≡ sheet.now ++ drop (length sheet.now) out.old) }
     // the rules give that sheet of the message, with any budget and any room
-    ensures sheet { result.written.number ≡ 0 → M.message_sheet o (given schema) (take result.written.length (after room)) ≡ given sheet }
+    ensures sheet { result.written.number ≡ 0 → M.message_sheet o schema.now (take result.written.length room.new) ≡ sheet.now }
     // with less of either allowance the answer is 4 or 17, and `Short` says what is spent then
-    ensures less { result.written.number ≡ 0 → TableOf o (given schema) (given rows) → (budget.visits < (enough o (given schema) (given sheet)).visits) ⊎ (budget.content < (enough o (given schema) (given sheet)).content) → Short budget (sheet_lengths o (given schema) (given sheet)) result.read.verdict × (result.read.length ≡ 0) × (after out ≡ given out) }
+    ensures less { result.written.number ≡ 0 → TableOf o schema.now rows.now → (budget.visits < (enough o schema.now sheet.now).visits) ⊎ (budget.content < (enough o schema.now sheet.now).content) → Short budget (sheet_lengths o schema.now sheet.now) result.read.verdict × (result.read.length ≡ 0) × (out.new ≡ out.old) }
     // with less visits and enough content it is 4, and all visits are spent
-    ensures few_visits { result.written.number ≡ 0 → TableOf o (given schema) (given rows) → budget.visits < (enough o (given schema) (given sheet)).visits → (enough o (given schema) (given sheet)).content ≤ budget.content → (at : ℕ) × (result.read ≡ record { verdict = W.verdict_at (W.refusal 4 at) (W.spending budget.visits (total (take budget.visits (sheet_lengths o (given schema) (given sheet))))); length = 0 }) × (after out ≡ given out) }
+    ensures few_visits { result.written.number ≡ 0 → TableOf o schema.now rows.now → budget.visits < (enough o schema.now sheet.now).visits → (enough o schema.now sheet.now).content ≤ budget.content → (at : ℕ) × (result.read ≡ record { verdict = W.verdict_at (W.refusal 4 at) (W.spending budget.visits (total (take budget.visits (sheet_lengths o schema.now sheet.now)))); length = 0 }) × (out.new ≡ out.old) }
     // with enough visits and less content it is 17, at the first object with which the content would pass the allowance
-    ensures little_content { result.written.number ≡ 0 → TableOf o (given schema) (given rows) → (enough o (given schema) (given sheet)).visits ≤ budget.visits → budget.content < (enough o (given schema) (given sheet)).content → (k at : ℕ) × (total (take k (sheet_lengths o (given schema) (given sheet))) ≤ budget.content) × (budget.content < total (take (suc k) (sheet_lengths o (given schema) (given sheet)))) × (result.read ≡ record { verdict = W.verdict_at (W.refusal 17 at) (W.spending (k + 1) (total (take k (sheet_lengths o (given schema) (given sheet))))); length = 0 }) × (after out ≡ given out) }
+    ensures little_content { result.written.number ≡ 0 → TableOf o schema.now rows.now → (enough o schema.now sheet.now).visits ≤ budget.visits → budget.content < (enough o schema.now sheet.now).content → (k at : ℕ) × (total (take k (sheet_lengths o schema.now sheet.now)) ≤ budget.content) × (budget.content < total (take (suc k) (sheet_lengths o schema.now sheet.now))) × (result.read ≡ record { verdict = W.verdict_at (W.refusal 17 at) (W.spending (k + 1) (total (take k (sheet_lengths o schema.now sheet.now)))); length = 0 }) × (out.new ≡ out.old) }
 {
     let written = write::write(schema, sheet, room, o);
     let n = written.length;
@@ -551,16 +551,16 @@ pub fn write_then_read_newer(
     o: usize,
 ) -> Trip
     // the answers, the room and the output are the definition's, of refusals too; what is read is what was written in the room
-    ensures written { result.written ≡ M.write_answer o (given older) (given sheet) (given room) }
-    ensures message { after room ≡ M.write_out o (given older) (given sheet) (given room) }
-    ensures read { result.read ≡ M.read_answer o (lent o newer rows) (take result.written.length (after room)) budget (given out) }
-    ensures output { after out ≡ M.read_out o (lent o newer rows) (take result.written.length (after room)) budget (given out) }
+    ensures written { result.written ≡ M.write_answer o older.now sheet.now room.old }
+    ensures message { room.new ≡ M.write_out o older.now sheet.now room.old }
+    ensures read { result.read ≡ M.read_answer o (lent o newer rows) (take result.written.length room.new) budget out.old }
+    ensures output { out.new ≡ M.read_out o (lent o newer rows) (take result.written.length room.new) budget out.old }
     // the newer reads the message and spends as much of both as the older, if its sheet has room
-    ensures accepts { Ap.Appends o (given older) (given newer) → result.written.number ≡ 0 → TableOf o (given newer) (given rows) → Affords budget (enough o (given older) (given sheet)) → ((result.read.verdict.number ≡ 0) ⊎ (result.read.verdict.number ≡ 14)) × (W.spent_of result.read.verdict ≡ enough o (given older) (given sheet)) }
+    ensures accepts { Ap.Appends o older.now newer.now → result.written.number ≡ 0 → TableOf o newer.now rows.now → Affords budget (enough o older.now sheet.now) → ((result.read.verdict.number ≡ 0) ⊎ (result.read.verdict.number ≡ 14)) × (W.spent_of result.read.verdict ≡ enough o older.now sheet.now) }
     // the newer's sheet is the older's with the added members, as bytes: what is handed out
-    ensures added { Ap.Appends o (given older) (given newer) → result.written.number ≡ 0 → TableOf o (given newer) (given rows) → HandsOut result.read (after out) (Ap.sheet_with o (given older) (given newer) (given sheet)) }
+    ensures added { Ap.Appends o older.now newer.now → result.written.number ≡ 0 → TableOf o newer.now rows.now → HandsOut result.read out.new (Ap.sheet_with o older.now newer.now sheet.now) }
     // and what the rules give of the message, with any budget and any room
-    ensures sheet { Ap.Appends o (given older) (given newer) → result.written.number ≡ 0 → M.message_sheet o (given newer) (take result.written.length (after room)) ≡ Ap.sheet_with o (given older) (given newer) (given sheet) }
+    ensures sheet { Ap.Appends o older.now newer.now → result.written.number ≡ 0 → M.message_sheet o newer.now (take result.written.length room.new) ≡ Ap.sheet_with o older.now newer.now sheet.now }
 {
     let written = write::write(older, sheet, room, o);
     let n = written.length;
@@ -588,13 +588,13 @@ pub fn write_then_judge(
     o: usize,
 ) -> Judgements
     // the answer, the room and the verdicts are the definition's, of refusals too; what is judged is what was written in the room
-    ensures written { result.written ≡ M.write_answer o (given older) (given sheet) (given room) }
-    ensures message { after room ≡ M.write_out o (given older) (given sheet) (given room) }
-    ensures by_older { result.older ≡ W.verdict o (lent o older oldrows) (take result.written.length (after room)) budget }
-    ensures by_newer { result.newer ≡ W.verdict o (lent o newer newrows) (take result.written.length (after room)) budget }
+    ensures written { result.written ≡ M.write_answer o older.now sheet.now room.old }
+    ensures message { room.new ≡ M.write_out o older.now sheet.now room.old }
+    ensures by_older { result.older ≡ W.verdict o (lent o older oldrows) (take result.written.length room.new) budget }
+    ensures by_newer { result.newer ≡ W.verdict o (lent o newer newrows) (take result.written.length room.new) budget }
     // whatever message the writer made under the older schema, the newer accepts with every budget with which the older does (and
     // spends the same of both): the whole verdict is the same
-    ensures same { Ap.Appends o (given older) (given newer) → result.written.number ≡ 0 → TableOf o (given older) (given oldrows) → TableOf o (given newer) (given newrows) → result.newer ≡ result.older }
+    ensures same { Ap.Appends o older.now newer.now → result.written.number ≡ 0 → TableOf o older.now oldrows.now → TableOf o newer.now newrows.now → result.newer ≡ result.older }
 {
     let written = write::write(older, sheet, room, o);
     let n = written.length;
@@ -632,24 +632,24 @@ pub fn moved_over(
     out: &mut [u8],
 ) -> Moved
     // each answer and each buffer is the definition's, of refusals too; what a step takes is what the steps before it gave
-    ensures stored { result.stored ≡ M.read_answer 6 (lent 6 schema rows) (given message) first (given sheet) }
-    ensures sheet { after sheet ≡ M.read_out 6 (lent 6 schema rows) (given message) first (given sheet) }
-    ensures cleared { result.cleared ≡ M.write_room (Mv.clearing (given schema)) (length (given newer)) }
-    ensures newer { after newer ≡ M.write_over (Mv.clearing (given schema)) (given newer) }
-    ensures written { result.written ≡ M.write_answer 6 (take result.cleared.length (after newer)) (take result.stored.length (after sheet)) (given room) }
-    ensures message { after room ≡ M.write_out 6 (take result.cleared.length (after newer)) (take result.stored.length (after sheet)) (given room) }
-    ensures back { result.back ≡ M.read_answer 6 (Po.with_table 6 (take result.cleared.length (after newer)) (given newrows)) (take result.written.length (after room)) second (given out) }
-    ensures output { after out ≡ M.read_out 6 (Po.with_table 6 (take result.cleared.length (after newer)) (given newrows)) (take result.written.length (after room)) second (given out) }
+    ensures stored { result.stored ≡ M.read_answer 6 (lent 6 schema rows) message.now first sheet.old }
+    ensures sheet { sheet.new ≡ M.read_out 6 (lent 6 schema rows) message.now first sheet.old }
+    ensures cleared { result.cleared ≡ M.write_room (Mv.clearing schema.now) (length newer.old) }
+    ensures newer { newer.new ≡ M.write_over (Mv.clearing schema.now) newer.old }
+    ensures written { result.written ≡ M.write_answer 6 (take result.cleared.length newer.new) (take result.stored.length sheet.new) room.old }
+    ensures message { room.new ≡ M.write_out 6 (take result.cleared.length newer.new) (take result.stored.length sheet.new) room.old }
+    ensures back { result.back ≡ M.read_answer 6 (Po.with_table 6 (take result.cleared.length newer.new) newrows.now) (take result.written.length room.new) second out.old }
+    ensures output { out.new ≡ M.read_out 6 (Po.with_table 6 (take result.cleared.length newer.new) newrows.now) (take result.written.length room.new) second out.old }
     // the schema of a message that is read can be cleared, given room; it is "a schema in which only the in-place flag of those unions is
     // cleared"
-    ensures clears { result.stored.verdict.number ≡ 0 → length (given schema) ≤ length (given newer) → result.cleared ≡ record { number = 0; length = length (given schema) } }
-    ensures schema { result.stored.verdict.number ≡ 0 → result.cleared.number ≡ 0 → take result.cleared.length (after newer) ≡ Mv.without_inplace_unions (given schema) }
+    ensures clears { result.stored.verdict.number ≡ 0 → length schema.now ≤ length newer.old → result.cleared ≡ record { number = 0; length = length schema.now } }
+    ensures schema { result.stored.verdict.number ≡ 0 → result.cleared.number ≡ 0 → take result.cleared.length newer.new ≡ Mv.without_inplace_unions schema.now }
     // the write is refused by "12 for an older reason, 13 or 14", and by nothing else: `MovedAs` has the reasons, and 14 is for the room
-    ensures reasons { result.stored.verdict.number ≡ 0 → result.cleared.number ≡ 0 → (result.written ≡ M.write_room (Mv.moved (given schema) (given message)) (length (given room))) × MovedAs (given schema) (given message) (Mv.moved (given schema) (given message)) }
+    ensures reasons { result.stored.verdict.number ≡ 0 → result.cleared.number ≡ 0 → (result.written ≡ M.write_room (Mv.moved schema.now message.now) (length room.old)) × MovedAs schema.now message.now (Mv.moved schema.now message.now) }
     // "where that write is not refused .., the sheet read back with enough allowance and room is the same": as bytes
-    ensures same { result.stored.verdict.number ≡ 0 → result.cleared.number ≡ 0 → result.written.number ≡ 0 → TableOf 6 (Mv.without_inplace_unions (given schema)) (given newrows) → Affords second (enough 6 (Mv.without_inplace_unions (given schema)) (take result.stored.length (after sheet))) → result.stored.length ≤ length (given out) → (result.back ≡ record { verdict = W.at_zero 0 (enough 6 (Mv.without_inplace_unions (given schema)) (take result.stored.length (after sheet))); length = result.stored.length }) × (after out ≡ take result.stored.length (after sheet) ++ drop result.stored.length (given out)) }
+    ensures same { result.stored.verdict.number ≡ 0 → result.cleared.number ≡ 0 → result.written.number ≡ 0 → TableOf 6 (Mv.without_inplace_unions schema.now) newrows.now → Affords second (enough 6 (Mv.without_inplace_unions schema.now) (take result.stored.length sheet.new)) → result.stored.length ≤ length out.old → (result.back ≡ record { verdict = W.at_zero 0 (enough 6 (Mv.without_inplace_unions schema.now) (take result.stored.length sheet.new)); length = result.stored.length }) × (out.new ≡ take result.stored.length sheet.new ++ drop result.stored.length out.old) }
     // the rules give that sheet of the message, with any budget and any room
-    ensures rules { result.stored.verdict.number ≡ 0 → result.cleared.number ≡ 0 → result.written.number ≡ 0 → M.message_sheet 6 (take result.cleared.length (after newer)) (take result.written.length (after room)) ≡ take result.stored.length (after sheet) }
+    ensures rules { result.stored.verdict.number ≡ 0 → result.cleared.number ≡ 0 → result.written.number ≡ 0 → M.message_sheet 6 (take result.cleared.length newer.new) (take result.written.length room.new) ≡ take result.stored.length sheet.new }
 {
     let stored = sheet::read(schema, rows, message, first, sheet, wire::U48);
     let s = stored.length;

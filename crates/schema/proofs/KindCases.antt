@@ -1,5 +1,5 @@
 -- What a kind is, one lemma for each way out of the code.
-use mathlib.Core.Path.{◌≡◌, refl}
+use mathlib.Core.Path.{◌≡◌}
 use mathlib.Core.Bool.{Bool, true, false, ◌&&◌, not}
 use Prim.Native.Nat.{ℕ}
 use lib.Dec.{ltb, eqb}

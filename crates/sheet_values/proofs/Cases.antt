@@ -1,10 +1,10 @@
 -- The ways out of the writers.
 use mathlib.Core.Path.{◌≡◌, refl, sym, ap, ap₂, ◌∙◌, subst}
 use mathlib.Core.Bool.{Bool, true, false}
-use mathlib.Core.List.{List, [], ◌++◌, append_assoc}
-use Prim.Native.Nat.{ℕ, zero, suc, ◌+◌, ◌-◌, ◌*◌, ◌/◌, ◌%◌, ◌^◌, ◌<◌, ◌≤◌}
+use mathlib.Core.List.{List, ◌++◌, append_assoc}
+use Prim.Native.Nat.{ℕ, ◌+◌, ◌-◌, ◌*◌, ◌/◌, ◌%◌, ◌^◌, ◌<◌, ◌≤◌}
 use native.Mathlib.Omega.{arith}
-use native.Mathlib.Nat.{mul-zero, mul-suc, mul-le-mul, le_of_lt, mod-lt}
+use native.Mathlib.Nat.{mod-lt}
 use lib.ListN.{length, take, drop, length-append, length-drop}
 use lib.Seq.{length-take-le}
 use lib.Pow.{pow_pos}
@@ -18,7 +18,6 @@ use Rattle.wire.specs.Numbers.{Number, le_join}
 use Rattle.bitio.specs.Puts.{Room, Puts, saturated}
 use Rattle.bitio.specs.PutsLaws.{count_in, count_over, puts_then, puts-same, run_over, run-not}
 use Rattle.sheet_values.specs.Marks as A
-use Rattle.sheet_values.proofs.Remaining.{Remaining, remaining_turn}
 
 -- ---- a mark and a number
 -- as one number

@@ -13,7 +13,7 @@ use lib.Seq.{drop-cons}
 use borrow.Author.Tests.{eqb-true, ltb-true, ltb-false, lt-ltb, le-ltb}
 use Rattle.coding.specs.Lists.{pick}
 use Rattle.coding.specs.Bytes.{le}
-use Rattle.coding.specs.Utf8.{TextState, Boundary, after_octet, may_end, text_from, is_text}
+use Rattle.coding.specs.Utf8.{TextState, Boundary, may_end, text_from, is_text}
 use Rattle.wire.specs.Numbers.{Number, le_small, le_join}
 use Rattle.utf8.specs.Steps.{Ascii, lesser}
 use Rattle.utf8.proofs.OctetLaws.{ascii_stays}

@@ -7,7 +7,7 @@ use mathlib.Core.Bool.{Bool, true}
 use lib.Dec.{eqb}
 use lib.ListN.{get_or}
 use borrow.Author.Tests.{eqb-true}
-use Rattle.coding.specs.Lists.{pick, every}
+use Rattle.coding.specs.Lists.{every}
 use Rattle.coding.specs.Utf8.{TextState, Boundary, OneTail, TwoTails, ThreeTails, AfterE0, AfterED, AfterF0, AfterF4, NoText, within, after_first, after_octet}
 use Rattle.laws.specs.Lists.{every-at}
 use Rattle.utf8.specs.Table.{state_number, row, words}

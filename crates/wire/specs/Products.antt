@@ -1,6 +1,6 @@
 -- Products with a width, for runs of values that are all as wide: a width is a variable, so `omega` is told of its multiples.
-use Rattle.std.specs.Prelude.{ℕ, suc, ◌+◌, ◌-◌, ◌*◌, ◌≤◌, ◌<◌, ◌≡◌}
-use Rattle.std.proofs.Common.{ap, ◌∙◌, add-one, arith}
+use Rattle.std.specs.Prelude.{ℕ, ◌+◌, ◌-◌, ◌*◌, ◌≤◌, ◌<◌, ◌≡◌}
+use Rattle.std.proofs.Common.{ap, add-one, arith}
 
 -- one value more
 pub times_more : (w n : ℕ) → w * (n + 1) ≡ w * n + w

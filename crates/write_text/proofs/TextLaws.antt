@@ -8,7 +8,7 @@ use lib.ListN.{length, take, drop}
 use lib.Seq.{drop-drop, take_all}
 use Rattle.coding.specs.Bits.{bits, value, pack}
 use Rattle.coding.specs.Utf8.{TextState, Boundary, may_end, is_text}
-use Rattle.utf8.specs.Steps.{state_of, state_in, HoldsState, after_octets, Leads, Onward}
+use Rattle.utf8.specs.Steps.{state_of, state_in, HoldsState, after_octets, Onward}
 use Rattle.utf8.specs.Table.{state_number}
 use Rattle.utf8.proofs.OctetLaws.{octets-append, octets-end}
 use Rattle.write_text.specs.Texts.{Passes, blob_fine}

@@ -23,7 +23,10 @@ fn some() -> Vec<Case> {
 fn every_stored_case() {
     let cases = stored::cases();
     let given = printed(&stored::packed(&cases));
-    assert!(given == stored::answers(&cases), "see `rt check cases`");
+    assert!(
+        given == stored::answers(&cases),
+        "see `rt run` in crates/cases"
+    );
 }
 
 /// A case that the file does not hold whole ends the run.

@@ -1,7 +1,7 @@
 use Rattle.bitio.proofs.Runs.{run_byte, bytes_turn, bytes_done}
 use Rattle.coding.specs.Bits.{pack}
 use lib.ListN.{length, get_or, length-set}
-use Prim.Native.Nat.{◌+◌, ◌-◌, ◌*◌}
+use Prim.Native.Nat.{◌+◌, ◌*◌}
 use mathlib.Core.Path.{refl}
 use native.Mathlib.Omega.{arith}
 use Rattle.bitio.proofs.get_aligned.Goals as goal

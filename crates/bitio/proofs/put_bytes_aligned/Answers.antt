@@ -2,7 +2,7 @@ use Rattle.bitio.proofs.Turns.{bytes_turn, bytes_done}
 use Rattle.coding.specs.Bits.{bits}
 use Rattle.bitio.specs.Splice.{splice}
 use lib.ListN.{length-set}
-use Prim.Native.Nat.{ℕ, ◌+◌, ◌-◌, ◌*◌}
+use Prim.Native.Nat.{ℕ, ◌+◌, ◌*◌}
 use mathlib.Core.Path.{◌≡◌, refl, sym, ap, ◌∙◌}
 use native.Mathlib.Omega.{arith}
 use Rattle.bitio.proofs.put_bytes_aligned.Goals as goal

@@ -1,4 +1,3 @@
-use Prim.Native.Nat.{◌-◌}
 use native.Mathlib.Omega.{arith}
 use Rattle.schema_lawful.proofs.PartRules.{ids_none, ids_fail, ids_more, ids_done}
 use Rattle.schema_lawful.proofs.id_ok.Goals as goal

@@ -1,4 +1,3 @@
-use Prim.Native.Nat.{◌-◌}
 use native.Mathlib.Omega.{arith}
 use Rattle.schema_lawful.proofs.OlderRules.{older_none, older_fail, older_more, older_done}
 use Rattle.schema_lawful.proofs.older_table.Goals as goal

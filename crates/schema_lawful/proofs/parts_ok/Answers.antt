@@ -1,4 +1,3 @@
-use Prim.Native.Nat.{◌-◌}
 use native.Mathlib.Omega.{arith}
 use Rattle.schema_lawful.proofs.PartRules.{parts_none, parts_fail, parts_more, parts_done}
 use Rattle.schema_lawful.proofs.parts_ok.Goals as goal

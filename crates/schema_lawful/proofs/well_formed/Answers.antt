@@ -1,6 +1,5 @@
 -- `schema_lawful::well_formed` meets its contract: the shape, the structs and the other rules together are the definition.
 use Rattle.schema_lawful.proofs.PartRules.{shaped, formed_1, formed_2, formed_3, formed_sound-of, formed_4}
-use borrow.Author.Rules.{rules}
 use mathlib.Core.Path.{ap}
 use mathlib.Core.Bool.{not}
 use Rattle.schema_lawful.proofs.well_formed.Goals as goal

@@ -1,4 +1,3 @@
-use Prim.Native.Nat.{◌-◌}
 use native.Mathlib.Omega.{arith}
 use Rattle.schema_rules.proofs.DirectRules.{held_none, held_fail, held_more, held_done}
 use Rattle.schema_rules.proofs.held_union.Goals as goal

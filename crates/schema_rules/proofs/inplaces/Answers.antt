@@ -1,4 +1,3 @@
-use Prim.Native.Nat.{◌-◌}
 use native.Mathlib.Omega.{arith}
 use Rattle.schema_rules.proofs.BlockRules.{inplaces_none, inplaces_more, inplaces_done}
 use Rattle.schema_rules.proofs.inplaces.Goals as goal

@@ -1,4 +1,3 @@
-use Prim.Native.Nat.{◌-◌}
 use native.Mathlib.Omega.{arith}
 use Rattle.schema_rules.proofs.BlockRules.{records_none, records_fail, records_more, records_skip, records_done}
 use Rattle.schema_rules.proofs.members_ok.Goals as goal

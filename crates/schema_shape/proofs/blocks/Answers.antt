@@ -1,4 +1,3 @@
-use Prim.Native.Nat.{◌-◌}
 use native.Mathlib.Omega.{arith}
 use Rattle.schema_shape.proofs.Storing.{begins, too_low, too_high, goes_on, done}
 use Rattle.schema_shape.proofs.blocks.Goals as goal

@@ -1,7 +1,6 @@
 use borrow.Author.Rules.{rules}
 use native.Mathlib.Omega.{arith}
 use Rattle.schema_structs.proofs.FieldSizes.{size_1, size_2, size_3, size_4, size_5, size_5_small, size_6, size-known, rest_all, rest_more, rest_done, smaller}
-use Prim.Native.Nat.{◌-◌}
 use Rattle.schema_structs.proofs.+sizes.Goals as goal
 
 pub field_size-struct_size-requires : goal.field_size-struct_size-requires

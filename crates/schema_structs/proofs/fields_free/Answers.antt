@@ -1,4 +1,3 @@
-use Prim.Native.Nat.{◌-◌}
 use native.Mathlib.Omega.{arith}
 use Rattle.schema_structs.proofs.Representing.{free_none, free_more, free_stop, free_all}
 use Rattle.schema_structs.proofs.fields_free.Goals as goal

@@ -1,4 +1,3 @@
-use Prim.Native.Nat.{◌-◌}
 use Rattle.schema_structs.proofs.Representing.{represented_none, represented_more, represented_done}
 use Rattle.schema_structs.proofs.store_representatives.Goals as goal
 

@@ -1,5 +1,4 @@
 use borrow.Author.Rules.{rules}
-use Prim.Native.Nat.{◌-◌}
 use Rattle.schema_structs.proofs.StructRules.{sizing_none, sizing_more, sizing_done, small-below, fields_bad, too_large}
 use mathlib.Core.Path.{ap}
 use mathlib.Core.Bool.{not}

@@ -1,4 +1,3 @@
-use Prim.Native.Nat.{◌-◌}
 use borrow.Author.Rules.{rules}
 use Rattle.utf8.proofs.StepLaws.{onward_none, onward_more, onward_done}
 use Rattle.utf8.proofs.after_bytes.Goals as goal

@@ -1,4 +1,3 @@
-use Prim.Native.Nat.{◌-◌}
 use borrow.Author.Rules.{rules}
 use Rattle.utf8.proofs.StepLaws.{onward-begin, onward_then, no_text, text-end}
 use Rattle.utf8.proofs.is_all_text.Goals as goal

@@ -1,4 +1,3 @@
-use Prim.Native.Nat.{◌-◌}
 use Rattle.coding.specs.Utf8.{Boundary}
 use Rattle.utf8.proofs.StepLaws.{leads_none, leads_then}
 use Rattle.utf8.proofs.past_ascii.Goals as goal

@@ -1,6 +1,5 @@
 use Rattle.wire.proofs.Bits.{number_done, number_turn, number_all}
 use native.Mathlib.Omega.{arith}
-use Prim.Native.Nat.{◌-◌}
 use Rattle.wire.proofs.bytes_of.Goals as goal
 
 pub loop-i-init : goal.loop-i-init

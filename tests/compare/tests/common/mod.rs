@@ -17,11 +17,11 @@ pub fn folder() -> PathBuf {
 
 /// A program of the repository that is to be run in a folder.
 pub fn program_in(folder: &Path, name: &str) -> Command {
-    let programs = Path::new(env!("CARGO_MANIFEST_DIR")).join("../../target/bin");
-    let program = programs.join(name);
+    let crates = Path::new(env!("CARGO_MANIFEST_DIR")).join("../../crates");
+    let program = crates.join(name).join("out").join(name);
     assert!(
         program.is_file(),
-        "target/bin/{name} is missing: make it with `rt check {name}`"
+        "crates/{name}/out/{name} is missing: `rt run` in crates/{name} makes it"
     );
     let mut command = Command::new(program);
     command.current_dir(folder);
