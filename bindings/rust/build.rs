@@ -3,7 +3,7 @@
 use std::env;
 use std::path::Path;
 
-const BUILT: &str = "../../crates/scalgo/out";
+const BUILT: &str = "../../target/staticlib";
 
 fn main() {
     println!("cargo:rerun-if-env-changed=SCALGO_LIB_DIR");
@@ -14,7 +14,7 @@ fn main() {
     println!("cargo:rerun-if-changed={}", archive.display());
     assert!(
         archive.is_file(),
-        "{} is missing: make it with `rt lib` in crates/scalgo, or set SCALGO_LIB_DIR to its folder",
+        "{} is missing: make it with `tools/archive`, or set SCALGO_LIB_DIR to its folder",
         archive.display()
     );
     println!("cargo:rustc-link-search=native={}", folder.display());

@@ -1,8 +1,8 @@
 //! A safe wrapper of `libscalgo.a`, a proved library for scalgoproto messages.
 //!
 //! The archive is for x86-64 Linux. The crate looks for it in the folder that the environment
-//! variable `SCALGO_LIB_DIR` names, or else in `crates/scalgo/out` of the repository, where
-//! `rt lib` in `crates/scalgo` puts it. There is nothing else to install.
+//! variable `SCALGO_LIB_DIR` names, or else in `target/staticlib` of the repository, where
+//! `tools/archive` puts it. There is nothing else to install.
 //!
 //! A [`Schema`] is made once, of bytes and a [`Coding`], of which there are two. It works out where
 //! the members of its tables stand, and all that is done with messages is a method of it. Making

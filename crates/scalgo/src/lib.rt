@@ -1,5 +1,6 @@
-// The library's C interface: thin, no logic. include/scalgo.h declares it. The number `coding` says the coding, 48 or 32; any other
-// names none, and no schema is lawful then. Every reader is lent the table of member positions that `scalgo_positions` makes.
+// The functions of the C interface, for Rattle: thin, no logic. `scalgo_c` exports them, and include/scalgo.h declares them. The number
+// `coding` says the coding, 48 or 32; any other names none, and no schema is lawful then. Every reader is lent the table of member
+// positions that `scalgo_positions` makes.
 #![tactic(auto)]
 
 ghost use Rattle.std.specs.Prelude.{◌≡◌, ◌+◌, ◌≤◌};
@@ -29,13 +30,7 @@ fn store(v: Verdict, to: &mut [u64; 5])
 }
 
 // Makes the table of member positions of a packed schema: answers the number, and stores the table's length.
-#[unsafe(no_mangle)]
-pub extern "C" fn scalgo_positions(
-    coding: u32,
-    schema: &[u8],
-    positions: &mut [u8],
-    length: &mut u64,
-) -> u32
+pub fn scalgo_positions(coding: u32, schema: &[u8], positions: &mut [u8], length: &mut u64) -> u32
     ensures value { result ≡ (Po.positions_answer (B.width_of coding) schema.now positions.old).number }
     ensures length_after { length.new ≡ (Po.positions_answer (B.width_of coding) schema.now positions.old).length }
     ensures positions_after { positions.new ≡ Po.positions_out (B.width_of coding) schema.now positions.old }
@@ -47,8 +42,7 @@ pub extern "C" fn scalgo_positions(
 }
 
 // Judges a message by a packed schema within two allowances: answers the number, and stores the verdict.
-#[unsafe(no_mangle)]
-pub extern "C" fn scalgo_judge(
+pub fn scalgo_judge(
     coding: u32,
     schema: &[u8],
     positions: &[u8],
@@ -67,8 +61,7 @@ pub extern "C" fn scalgo_judge(
 }
 
 // One field's answer at a path: answers its case, and stores the case's three numbers.
-#[unsafe(no_mangle)]
-pub extern "C" fn scalgo_field(
+pub fn scalgo_field(
     coding: u32,
     schema: &[u8],
     positions: &[u8],
@@ -93,8 +86,7 @@ pub extern "C" fn scalgo_field(
 
 // Where the text or the bytes stand that a path leads to: answers 1 where it leads to such and 0 otherwise, and stores where the
 // part of the message starts and its length.
-#[unsafe(no_mangle)]
-pub extern "C" fn scalgo_text(
+pub fn scalgo_text(
     coding: u32,
     schema: &[u8],
     positions: &[u8],
@@ -117,8 +109,7 @@ pub extern "C" fn scalgo_text(
 
 // Many steps of a list reader: stores the case and the three numbers of each step from an element on, as many steps as there is
 // room for, and answers how many elements the list has.
-#[unsafe(no_mangle)]
-pub extern "C" fn scalgo_list(
+pub fn scalgo_list(
     coding: u32,
     schema: &[u8],
     positions: &[u8],
@@ -135,8 +126,7 @@ pub extern "C" fn scalgo_list(
 }
 
 // Reads a message to its value sheet within two allowances: answers the number, and stores the verdict and the sheet's length.
-#[unsafe(no_mangle)]
-pub extern "C" fn scalgo_read(
+pub fn scalgo_read(
     coding: u32,
     schema: &[u8],
     positions: &[u8],
@@ -168,8 +158,7 @@ pub extern "C" fn scalgo_read(
 }
 
 // Writes a value sheet as a message: answers the number, and stores the message's length.
-#[unsafe(no_mangle)]
-pub extern "C" fn scalgo_write(
+pub fn scalgo_write(
     coding: u32,
     schema: &[u8],
     sheet: &[u8],
@@ -188,8 +177,7 @@ pub extern "C" fn scalgo_write(
 
 // The schema to which stored messages of the 48-bit coding are moved over: only the in-place flag of its unions is cleared. Answers the
 // number, and stores the schema and its length.
-#[unsafe(no_mangle)]
-pub extern "C" fn scalgo_clear_unions(schema: &[u8], cleared: &mut [u8], length: &mut u64) -> u32
+pub fn scalgo_clear_unions(schema: &[u8], cleared: &mut [u8], length: &mut u64) -> u32
     ensures value { result ≡ (M.write_room (Mv.clearing schema.now) (N.length cleared.old)).number }
     ensures length_after { length.new ≡ (M.write_room (Mv.clearing schema.now) (N.length cleared.old)).length }
     ensures cleared_after { cleared.new ≡ M.write_over (Mv.clearing schema.now) cleared.old }

@@ -9,7 +9,7 @@ use std::process::Command;
 fn archive() -> String {
     let root = concat!(env!("CARGO_MANIFEST_DIR"), "/../../bindings/rust");
     let named = std::env::var("SCALGO_LIB_DIR");
-    let folder = named.unwrap_or_else(|_| "../../crates/scalgo/out".to_string());
+    let folder = named.unwrap_or_else(|_| "../../target/staticlib".to_string());
     let archive = Path::new(root).join(folder).join("libscalgo.a");
     archive.display().to_string()
 }
