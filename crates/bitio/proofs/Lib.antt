@@ -1,4 +1,5 @@
 pub mod Fields
+pub mod Parts
 pub mod Runs
 pub mod Takes
 pub mod Turns

@@ -1,15 +1,14 @@
 -- Numbers of runs of bits: of a byte, of two runs joined, of a field of a run; and whole bytes got one by one.
 use mathlib.Core.Path.{◌≡◌, refl, sym, ap, ap₂, ◌∙◌}
 use Prim.Native.Nat.{ℕ, suc, ◌+◌, ◌*◌, ◌/◌, ◌%◌, ◌^◌, ◌≤◌, ◌<◌}
-use native.Mathlib.Nat.{mul_assoc, add-mul}
 use native.Mathlib.Numerals.{add-one}
 use native.Mathlib.Omega.{arith}
 use mathlib.Core.List.{List, [], ◌∷◌, ◌++◌}
 use lib.ListN.{length, get_or, take, drop, set}
-use lib.Seq.{drop-cons, drop-drop, take-suc-set, take_all}
-use lib.Pow.{pow-add, high, low, shl_exact, shl_lt}
+use lib.Seq.{drop-cons, drop-drop, take-suc-set}
+use lib.Pow.{pow-add, high, low}
 use lib.Arith.{digits_lt}
-use lib.Bits.{bit_or, or_shifted}
+use lib.Bits.{bit_or}
 use Rattle.coding.specs.Bits.{bits, value, pack}
 use Rattle.laws.specs.Bits.{bits_cons, bits-length, value_front}
 use Rattle.laws.specs.BitLists.{bits-drop, pack_snoc, value_more, run-lt}
@@ -47,33 +46,11 @@ module _ (l : List ℕ) (p q a c w h x : ℕ) (eq : q ≡ p + a) (ew : w ≡ a +
   pub run_join : Run l p w (bit_or ((h * 2 ^ c) % 2 ^ 64) x)
   run_join = rw (or_more h a c x f.small (omega arith) g.small) (run-sum l p q a c w h x eq ew fit f g)
 
--- a run at the top of a word, and a byte more below it
-pub record Top (l : List ℕ) (p w c y : ℕ) : Type 0 where
-  pub upper : ℕ
-  pub run : Run l p w upper
-  pub is : y ≡ upper * 2 ^ c
-
--- the first byte
-pub top-first : (l : List ℕ) (p b : ℕ) → Run l p 8 b → Top l p 8 56 ((b * 2 ^ 56) % 2 ^ 64)
-top-first l p b r = record { upper = b; run = r; is = shl_exact 8 56 64 r.small (omega arith) }
-
-module _ (l : List ℕ) (p q w v c d y b : ℕ) (eq : q ≡ p + w) (ew : v ≡ w + 8) (ed : d ≡ 8 + c) (most : d ≤ 64) (fit : p + v ≤ 8 * length l) (t : Top l p w d y) (g : Run l q 8 b) where
-  pub top_more : Top l p v c (bit_or y ((b * 2 ^ c) % 2 ^ 64))
-  top_more =
-      let h : ℕ = t.upper in
-      let s : (b * 2 ^ c) % 2 ^ 64 ≡ b * 2 ^ c = shl_exact 8 c 64 g.small (omega arith) in
-      let lo : b * 2 ^ c < 2 ^ d = rw ed (shl_lt 8 c g.small) in
-      let pw : h * 2 ^ d ≡ h * 2 ^ 8 * 2 ^ c = ap (λ (k : ℕ). h * 2 ^ k) ed ∙ ap (λ (k : ℕ). h * k) (pow-add 2 8 c) ∙ sym (mul_assoc h (2 ^ 8) (2 ^ c)) in
-      record {
-        upper = h * 2 ^ 8 + b;
-        run = run-sum l p q w 8 v h b eq ew fit t.run g;
-        is = ap₂ bit_or t.is s ∙ or_shifted h d (b * 2 ^ c) lo ∙ ap (λ (k : ℕ). k + b * 2 ^ c) pw ∙ sym (add-mul (h * 2 ^ 8) b (2 ^ c));
-      }
-
--- the last byte
-pub top_last : (l : List ℕ) (p q w v y b : ℕ) → q ≡ p + w → v ≡ w + 8 → p + v ≤ 8 * length l → Top l p w 8 y → Run l q 8 b → Run l p v (bit_or y b)
-top_last l p q w v y b eq ew fit t g =
-    rw (t.is, or_shifted t.upper 8 b g.small) (run-sum l p q w 8 v t.upper b eq ew fit t.run g)
+-- the first k bytes, and one more
+pub run_next : (l : List ℕ) (k v b : ℕ) → k < 7 → k < length l → Run l 0 (8 * k) v → b ≡ get_or l k 0 → get_or l k 0 < 2 ^ 8
+    → Run l 0 (8 * (k + 1)) (bit_or ((v * 2 ^ 8) % 2 ^ 64) b)
+run_next l k v b few h f eb hb =
+    run_join l 0 (8 * k) (8 * k) 8 (8 * (k + 1)) v b (omega arith) (omega arith) (omega arith) (omega arith) f (rw eb (run_byte l k (8 * k) refl h hb))
 
 -- two neighbouring bytes
 pub run-two : (l : List ℕ) (i : ℕ) → i + 2 ≤ length l → get_or l i 0 < 2 ^ 8 → get_or l (i + 1) 0 < 2 ^ 8 → Run l (8 * i) 16 (get_or l i 0 * 2 ^ 8 + get_or l (i + 1) 0)
@@ -107,6 +84,3 @@ bytes_turn dst s pos j x h r e =
     (take-suc-set dst j x h
     ∙ ap₂ (λ (t : List ℕ) (y : ℕ). t ++ (y ∷ [])) e (r.number ∙ ap (λ (t : List ℕ). value (take 8 t)) (sym (drop-drop (8 * j) pos (bits s))))
     ∙ sym (pack_snoc j (drop pos (bits s))))
-
-pub bytes_done : (dst s : List ℕ) (pos j n : ℕ) → length dst ≤ j → j ≡ n → take j dst ≡ pack j (drop pos (bits s)) → dst ≡ pack n (drop pos (bits s))
-bytes_done dst s pos j n h z e = sym (take_all j dst h) ∙ e ∙ ap (λ (k : ℕ). pack k (drop pos (bits s))) z

@@ -93,10 +93,6 @@ own_start out ys pos start a p es ea h ep =
     ∙ splice_own (bits out) (8 * start) a ys (omega (arith, bits-length out))
     ∙ ap (λ (k : ℕ). splice (bits out) k ys) (sym at)
 
-pub across_start : (out m : List ℕ) (pos start a p : ℕ) → start ≡ pos / 8 → a ≡ pos % 8 → start < length out → p ≡ get_or out start 0 / 2 ^ (8 - a)
-    → splice (bits out) (8 * start) (bits_of a p ++ bits m) ≡ splice (bits out) pos (bits m)
-across_start out m pos start a p es ea h ep = own_start out (bits m) pos start a p es ea h ep
-
 pub across_turn : (out m : List ℕ) (start a p x b j : ℕ) → j < length m → start + length m < length out → a < 8 → x ≡ get_or m j 0 → x < 2 ^ 8
     → b ≡ (p * 2 ^ 8 + x) / 2 ^ a % 2 ^ 8
     → splice (bits (set out (start + j) b)) (8 * (start + (j + 1))) (bits_of a x ++ bits (drop (j + 1) m)) ≡ splice (bits out) (8 * (start + j)) (bits_of a p ++ bits (drop j m))

@@ -1,22 +1,57 @@
 -- Numbers stored by the word.
-use mathlib.Core.Path.{◌≡◌, refl, sym, ap, ap₂, ◌∙◌}
-use Prim.Native.Nat.{ℕ, ◌+◌, ◌-◌, ◌*◌, ◌/◌, ◌%◌, ◌^◌, ◌≤◌, ◌<◌}
-use native.Mathlib.Nat.{mod-lt}
-use native.Mathlib.Omega.{arith}
-use mathlib.Core.List.{List, ◌++◌, append_assoc}
-use lib.ListN.{length, get_or, set}
-use lib.Pow.{pow_pos, shr_lt}
-use lib.Bits.{bit_or}
-use Rattle.coding.specs.Bits.{bits_of, bits}
-use Rattle.laws.specs.Bits.{bits_of-length, bits_of_split, bits_of-mod, bits_of_join, bits-length}
+use Rattle.std.specs.Prelude.{◌≡◌, refl, List, ◌++◌, ℕ, zero, suc, ◌+◌, ◌-◌, ◌*◌, ◌/◌, ◌%◌, ◌^◌, ◌≤◌, ◌<◌, length, get_or, take, drop}
+use Rattle.std.proofs.Common.{sym, ap, ap₂, ◌∙◌, Fits, w8, append_assoc, arith, mod-lt, pow_pos, pow-add, pow-suc}
+use Rattle.std.specs.Int.{w64, byte_at, bytes_high_first, to_be_bytes, from_be_bytes}
+use Rattle.std.specs.Int.Bits.{bit_or}
+use Rattle.std.proofs.lemmas.Nat.{be_bytes_8}
+use borrow.Rule.Slice.PartMut.{put_mid}
+use lib.Pow.{shr_lt}
+use Rattle.coding.specs.Bits.{bits_of, bits, value}
+use Rattle.laws.specs.All.{index_all}
+use Rattle.laws.specs.Bits.{Byte, bits_of-length, bits_of_split, bits_of-mod, bits_of_join, bits-length, value_front}
 use Rattle.bitio.specs.Splice.{splice}
-use Rattle.bitio.specs.SpliceLaws.{put_then, bits-stored}
+use Rattle.bitio.specs.SpliceLaws.{put_then}
+use Rattle.bitio.specs.Taken.{Run}
 use Rattle.bits.proofs.Masks.{or_more}
+use Rattle.bitio.proofs.Parts.{part-length, part-bits, part_put, part_all}
 use Rattle.bitio.proofs.Turns.{own_start}
 
--- a byte
-pub byte_put : (out : List ℕ) (i v b : ℕ) → i < length out → b ≡ v % 2 ^ 8 → bits (set out i b) ≡ splice (bits out) (8 * i) (bits_of 8 v)
-byte_put out i v b h e = bits-stored out i b h ∙ ap (splice (bits out) (8 * i)) (ap (bits_of 8) e ∙ bits_of-mod 8 v)
+-- ---- a number's bytes, the highest first, have its bits
+byte_power : (k : ℕ) → 256 ^ k ≡ 2 ^ (8 * k)
+byte_power zero = refl
+byte_power (suc k) =
+    let e : 8 * suc k ≡ 8 * k + 8 = omega arith in
+    pow-suc 256 k ∙ ap (λ (m : ℕ). m * 256) (byte_power k) ∙ sym (ap (λ (m : ℕ). 2 ^ m) e ∙ pow-add 2 (8 * k) 8)
+
+byte_is : (k n : ℕ) → byte_at k n ≡ n / 2 ^ (8 * k) % 2 ^ 8
+byte_is zero n = omega arith
+byte_is (suc k) n = ap (λ (m : ℕ). n / m % 256) (byte_power (suc k))
+
+pub bytes-bits : (k n : ℕ) → bits (bytes_high_first k n) ≡ bits_of (8 * k) n
+unfolding bits bits_of
+bytes-bits zero n = refl
+bytes-bits (suc k) n =
+    let e : 8 * suc k ≡ 8 + 8 * k = omega arith in
+    ap₂ (λ (s t : List ℕ). s ++ t) (ap (bits_of 8) (byte_is k n) ∙ bits_of-mod 8 (n / 2 ^ (8 * k))) (bytes-bits k n)
+    ∙ sym (bits_of_split 8 (8 * k) n) ∙ ap (λ (i : ℕ). bits_of i n) (sym e)
+
+-- eight bytes got
+pub word_run : (s l : List ℕ) (i x : ℕ) → i + 8 ≤ length s → ((k : ℕ) → Fits w8 (get_or s k 0)) → l ≡ take 8 (drop i s) → x ≡ from_be_bytes w64 l → x < 2 ^ 64
+    → Run s (8 * i) 64 x
+word_run s l i x h bytes e ex small =
+    let each : (k : ℕ) → get_or l k 0 < 256 = rw e (index_all Byte 0 (take 8 (drop i s)) (omega arith) (part_all s i 8 h bytes)) in
+    let here : bits (take 8 (drop i s)) ≡ bits_of 64 x =
+    ap bits (sym e ∙ sym (be_bytes_8 l x (ap length e ∙ part-length s i 8 h) each ex)) ∙ bytes-bits 8 x in
+    let rest : List ℕ = bits (drop 8 (drop i s)) in
+    record {
+      number = sym (ap (λ (t : List ℕ). value (take 64 t)) (part-bits s i 8 h ∙ ap (λ (t : List ℕ). t ++ rest) here) ∙ value_front 64 x rest small);
+      small = small;
+    }
+
+-- eight bytes put
+pub word_put : (out ys : List ℕ) (i n v : ℕ) → i + 8 ≤ length out → n ≡ 8 → ys ≡ to_be_bytes w64 v → bits (put_mid i n out ys) ≡ splice (bits out) (8 * i) (bits_of 64 v)
+word_put out ys i n v h en e =
+    part_put out i n (omega arith) ys (ap length e ∙ sym en) ∙ ap (splice (bits out) (8 * i)) (ap bits e ∙ bytes-bits 8 v)
 
 -- the first n bits of a number, and the rest after them
 pub put_split : (l l₁ l₂ : List ℕ) (p q n left w v : ℕ) → n + left ≡ w → q ≡ p + n → p + w ≤ length l → l₁ ≡ splice l p (bits_of n (v / 2 ^ left))

@@ -11,72 +11,38 @@ ghost use Rattle.bitio.specs.Taken.{Run, TakenNumber, TakenBytes};
 
 // ---- numbers got
 
-// The byte at i.
-fn byte(s: &[u8], i: usize) -> u64
-    requires { i < length s.now }
-    ensures value { result ≡ get_or s.now i 0 }
-    ensures run { Run s.now (8 * i) 8 result }
-{
-    s[i] as u64
-}
-
-// The eight bytes from i on. In this form the compiler makes one load of them.
+// The eight bytes from i on, the highest first.
 pub fn word(s: &[u8], i: usize) -> u64
     requires { i + 8 ≤ length s.now }
     ensures { Run s.now (8 * i) 64 result }
 {
-    byte(s, i) << 56
-        | byte(s, i + 1) << 48
-        | byte(s, i + 2) << 40
-        | byte(s, i + 3) << 32
-        | byte(s, i + 4) << 24
-        | byte(s, i + 5) << 16
-        | byte(s, i + 6) << 8
-        | byte(s, i + 7)
+    u64::from_be_bytes(s[i..i + 8].try_into().unwrap())
 }
 
-// n bits that lie in one byte.
-fn get_in(s: &[u8], pos: usize, n: usize) -> u64
-    requires n_bound { pos + n ≤ 8 * length s.now }
-    requires n_bound_2 { pos % 8 + n ≤ 8 }
-    requires n_nonzero { 0 < n }
-    ensures { Run s.now pos n result }
-{
-    let k = 8 - bits::offset(pos) - n;
-    bits::low(byte(s, pos >> 3) >> k, n)
-}
-
-// The bits of the last bytes, a byte a turn.
-fn get_end(s: &[u8], pos: usize, width: usize) -> u64
-    requires width_bound { width ≤ 64 }
-    requires width_bound_2 { pos + width ≤ 8 * length s.now }
-    requires s_bound { 8 * length s.now < 2 ^ 64 }
+// Bits of fewer than eight bytes: all of these as one number, out of which they are cut. It stands out of line, so that what reads
+// by words stays small.
+#[inline(never)]
+fn get_few(s: &[u8], pos: usize, width: usize) -> u64
+    requires width_bound { pos + width ≤ 8 * length s.now }
+    requires few { length s.now < 8 }
     ensures { Run s.now pos width result }
 {
     let mut v: u64 = 0;
-    let mut at = pos;
-    let mut left = width;
-    while 0 < left {
-        let n = bits::chunk(at, left);
-        left -= n;
-        v = v << n | get_in(s, at, n);
-        at += n;
+    for b in s {
+        v = v << 8 | u64::from(*b);
     }
-    v
+    bits::low(v >> (8 * s.len() - pos - width), width)
 }
 
-// Up to 32 bits, by one word where eight bytes are left.
+// Up to 32 bits, by one word: the eight bytes from that of pos on, or the last eight.
 fn get_short(s: &[u8], pos: usize, width: usize) -> u64
     requires width_bound { width ≤ 32 }
     requires width_bound_2 { pos + width ≤ 8 * length s.now }
-    requires s_bound { 8 * length s.now < 2 ^ 64 }
+    requires s_bound { (8 ≤ length s.now) × (8 * length s.now < 2 ^ 64) }
     ensures { Run s.now pos width result }
 {
-    let i = pos >> 3;
-    if s.len() < i + 8 {
-        return get_end(s, pos, width);
-    }
-    let k = 64 - bits::offset(pos) - width;
+    let i = (pos >> 3).min(s.len() - 8);
+    let k = 8 * (i + 8) - pos - width;
     if k == 64 {
         return 0;
     }
@@ -90,6 +56,9 @@ pub fn get(s: &[u8], pos: usize, width: usize) -> u64
     requires s_bound { 8 * length s.now < 2 ^ 64 }
     ensures { Run s.now pos width result }
 {
+    if s.len() < 8 {
+        return get_few(s, pos, width);
+    }
     if width <= 32 {
         return get_short(s, pos, width);
     }
@@ -97,48 +66,39 @@ pub fn get(s: &[u8], pos: usize, width: usize) -> u64
     get_short(s, pos, first) << 32 | get_short(s, pos + first, 32)
 }
 
-// What is taken at the cursor: whether the bits are left, their number or 0, and where the cursor goes on (it stays where
-// they are not left).
+// A number taken at the cursor, and where the cursor goes on.
 #[derive(Clone, Copy)]
 pub struct Number {
-    pub whole: bool,
     pub value: u64,
     pub next: usize,
 }
 
-pub fn take_number(s: &[u8], pos: usize, width: usize) -> Number
+// The number of `width` bits at the cursor; none where the bits are not left.
+pub fn take_number(s: &[u8], pos: usize, width: usize) -> Option<Number>
     requires width_bound { width ≤ 64 }
     requires pos_bound { pos ≤ 8 * length s.now }
     requires s_bound { 8 * length s.now < 2 ^ 64 }
-    ensures { TakenNumber s.now pos width result.whole result.value result.next }
+    ensures { TakenNumber s.now pos width result }
 {
-    let end = 8 * s.len();
-    if width <= end - pos {
-        let x = get(s, pos, width);
-        return Number {
-            whole: true,
-            value: x,
-            next: pos + width,
-        };
+    if 8 * s.len() - pos < width {
+        return None;
     }
-    Number {
-        whole: false,
-        value: 0,
-        next: pos,
-    }
+    Some(Number {
+        value: get(s, pos, width),
+        next: pos + width,
+    })
 }
 
 // ---- whole bytes got
 
 // From a byte on.
+// Kept: with `copy_from_slice` the archive would call `memmove`, and README says that it calls only `memcpy` and `memset`.
 fn get_aligned(s: &[u8], i: usize, dst: &mut [u8])
     requires { i + length dst.old ≤ length s.now }
     ensures { dst.new ≡ pack (length dst.old) (drop (8 * i) (bits s.now)) }
 {
-    let mut j = 0;
-    while j < dst.len() {
-        dst[j] = s[i + j];
-        j += 1;
+    for (j, b) in dst.iter_mut().enumerate() {
+        *b = s[i + j];
     }
 }
 
@@ -149,12 +109,9 @@ fn get_across(s: &[u8], pos: usize, dst: &mut [u8])
     ensures { dst.new ≡ pack (length dst.old) (drop pos (bits s.now)) }
 {
     let k = 8 - bits::offset(pos);
-    let mut i = pos >> 3;
-    let mut j = 0;
-    while j < dst.len() {
-        dst[j] = bits::across(s[i], s[i + 1], k);
-        i += 1;
-        j += 1;
+    let first = pos >> 3;
+    for (j, b) in dst.iter_mut().enumerate() {
+        *b = bits::across(s[first + j], s[first + j + 1], k);
     }
 }
 
@@ -170,30 +127,16 @@ pub fn get_bytes(s: &[u8], pos: usize, dst: &mut [u8])
     get_across(s, pos, dst);
 }
 
-// What is taken at the cursor: whether the bytes are left, and where the cursor goes on.
-#[derive(Clone, Copy)]
-pub struct Bytes {
-    pub whole: bool,
-    pub next: usize,
-}
-
-// n bytes, passed over.
-pub fn skip_bytes(s: &[u8], pos: usize, n: usize) -> Bytes
+// n bytes at the cursor, passed over: where the cursor goes on; none where the bytes are not left.
+pub fn skip_bytes(s: &[u8], pos: usize, n: usize) -> Option<usize>
     requires pos_bound { pos ≤ 8 * length s.now }
     requires s_bound { 8 * length s.now < 2 ^ 64 }
-    ensures { TakenBytes s.now pos n result.whole result.next }
+    ensures { TakenBytes s.now pos n result }
 {
-    let end = 8 * s.len();
-    if n <= (end - pos) >> 3 {
-        return Bytes {
-            whole: true,
-            next: pos + 8 * n,
-        };
+    if (8 * s.len() - pos) >> 3 < n {
+        return None;
     }
-    Bytes {
-        whole: false,
-        next: pos,
-    }
+    Some(pos + 8 * n)
 }
 
 // ---- numbers put
@@ -208,7 +151,7 @@ fn put_in(out: &mut [u8], pos: usize, n: usize, x: u64)
 {
     let i = pos >> 3;
     let k = 8 - bits::offset(pos) - n;
-    out[i] = bits::merge(out[i] as u64, n, k, x) as u8;
+    out[i] = bits::merge(u64::from(out[i]), n, k, x) as u8;
 }
 
 // The `width` low bits of v from a byte on; a byte a turn, and what is left.
@@ -218,48 +161,23 @@ fn put_aligned(out: &mut [u8], start: usize, width: usize, v: u64)
     requires out_bound { 8 * length out.old < 2 ^ 64 }
     ensures { bits out.new ≡ splice (bits out.old) (8 * start) (bits_of width v) }
 {
-    let mut i = start;
+    let end = start + (width >> 3);
     let mut left = width;
-    while 8 <= left {
+    for i in start..end {
         left -= 8;
         out[i] = bits::last_byte(v >> left);
-        i += 1;
     }
     if 0 < left {
-        put_in(out, 8 * i, left, bits::low(v, left));
+        put_in(out, 8 * end, left, bits::low(v, left));
     }
 }
 
-// A byte, and two, four and eight bytes of a number, the highest first. In this form the compiler makes one store of them.
-fn put_byte(out: &mut [u8], i: usize, v: u64)
-    requires { i < length out.old }
-    ensures { bits out.new ≡ splice (bits out.old) (8 * i) (bits_of 8 v) }
-{
-    out[i] = bits::last_byte(v);
-}
-
-fn put_pair(out: &mut [u8], i: usize, v: u64)
-    requires { i + 2 ≤ length out.old }
-    ensures { bits out.new ≡ splice (bits out.old) (8 * i) (bits_of 16 v) }
-{
-    put_byte(out, i, v >> 8);
-    put_byte(out, i + 1, v);
-}
-
-fn put_quad(out: &mut [u8], i: usize, v: u64)
-    requires { i + 4 ≤ length out.old }
-    ensures { bits out.new ≡ splice (bits out.old) (8 * i) (bits_of 32 v) }
-{
-    put_pair(out, i, v >> 16);
-    put_pair(out, i + 2, v);
-}
-
+// Eight bytes of a number, the highest first.
 fn put_word(out: &mut [u8], i: usize, v: u64)
     requires { i + 8 ≤ length out.old }
     ensures { bits out.new ≡ splice (bits out.old) (8 * i) (bits_of 64 v) }
 {
-    put_quad(out, i, v >> 32);
-    put_quad(out, i + 4, v);
+    out[i..i + 8].copy_from_slice(&v.to_be_bytes());
 }
 
 // The n low bits of x behind the a high bits of a byte b.
@@ -291,7 +209,7 @@ fn put_long(out: &mut [u8], pos: usize, width: usize, v: u64)
     let a = bits::offset(pos);
     let i = pos >> 3;
     let left = a + width - 64;
-    let w = joined(byte(out, i), a, 64 - a, v >> left);
+    let w = joined(u64::from(out[i]), a, 64 - a, v >> left);
     put_word(out, i, w);
     if 0 < left {
         put_in(out, 8 * (i + 8), left, bits::low(v, left));
@@ -315,7 +233,7 @@ fn put_zeroed(out: &mut [u8], pos: usize, width: usize, v: u64)
 {
     let i = pos >> 3;
     let a = bits::offset(pos);
-    let x = behind(byte(out, i), a, width, v);
+    let x = behind(u64::from(out[i]), a, width, v);
     put_word(out, i, x << (64 - a - width));
 }
 
@@ -353,14 +271,13 @@ fn put(out: &mut [u8], pos: usize, width: usize, v: u64)
 // ---- whole bytes put
 
 // From a byte on.
+// Kept: with `copy_from_slice` the archive would call `memmove`, as in `get_aligned`.
 fn put_bytes_aligned(out: &mut [u8], start: usize, m: &[u8])
     requires { start + length m.now ≤ length out.old }
     ensures { bits out.new ≡ splice (bits out.old) (8 * start) (bits m.now) }
 {
-    let mut j = 0;
-    while j < m.len() {
-        out[start + j] = m[j];
-        j += 1;
+    for (j, &x) in m.iter().enumerate() {
+        out[start + j] = x;
     }
 }
 
@@ -373,15 +290,17 @@ fn put_bytes_across(out: &mut [u8], pos: usize, m: &[u8])
 {
     let a = bits::offset(pos);
     let start = pos >> 3;
-    let mut before = bits::last_byte(byte(out, start) >> (8 - a));
-    let mut j = 0;
-    while j < m.len() {
-        let x = m[j];
+    let mut before = out[start] >> (8 - a);
+    for (j, &x) in m.iter().enumerate() {
         out[start + j] = bits::across(before, x, a);
         before = x;
-        j += 1;
     }
-    put_in(out, 8 * (start + j), a, bits::low(before as u64, a));
+    put_in(
+        out,
+        8 * (start + m.len()),
+        a,
+        bits::low(u64::from(before), a),
+    );
 }
 
 // The bytes m from pos on.
@@ -401,13 +320,15 @@ pub fn put_bytes(out: &mut [u8], pos: usize, m: &[u8])
 pub fn clear_last(out: &mut [u8])
     ensures { out.new ≡ set out.old (length out.old - 1) 0 }
 {
-    let n = out.len();
-    if 0 < n {
-        out[n - 1] = 0;
+    if let Some(last) = out.last_mut() {
+        *last = 0;
     }
 }
 
 // ---- counted always, and stored where there is room
+// The bits of the longest sheet, of 16,777,215 bytes. Where more would be written, a writer gives one more.
+// Kept: `Puts`, by which all counting writers compose, says where the bits end as one count that saturates there.
+const MOST: usize = 134217720;
 
 // The w low bits of v; gives where the bits end.
 pub fn write(out: &mut [u8], pos: usize, w: usize, v: u64) -> usize
@@ -415,13 +336,9 @@ pub fn write(out: &mut [u8], pos: usize, w: usize, v: u64) -> usize
     requires w_bound { w ≤ 64 }
     ensures { Puts out.old pos (bits_of w v) out.new result }
 {
-    if (pos >> 3) + 8 <= out.len() {
-        if bits::offset(pos) + w < 64 {
-            if 0 < w {
-                put_zeroed(out, pos, w, v);
-                return pos + w;
-            }
-        }
+    if (pos >> 3) + 8 <= out.len() && bits::offset(pos) + w < 64 && 0 < w {
+        put_zeroed(out, pos, w, v);
+        return pos + w;
     }
     write_wide(out, pos, w, v)
 }
@@ -433,12 +350,11 @@ pub fn write_wide(out: &mut [u8], pos: usize, w: usize, v: u64) -> usize
     ensures { Puts out.old pos (bits_of w v) out.new result }
 {
     let end = pos + w;
-    if 134217720 < end {
-        return 134217721;
+    if MOST < end {
+        return MOST + 1;
     }
     if end <= 8 * out.len() {
         put(out, pos, w, v);
-        return end;
     }
     end
 }
@@ -448,24 +364,17 @@ pub fn write_bytes(out: &mut [u8], pos: usize, s: &[u8]) -> usize
     requires { Room out.old pos }
     ensures { Puts out.old pos (bits s.now) out.new result }
 {
-    if 16777215 < s.len() {
-        return 134217721;
+    if MOST / 8 < s.len() {
+        return MOST + 1;
     }
     let end = pos + 8 * s.len();
-    if 134217720 < end {
-        return 134217721;
+    if MOST < end {
+        return MOST + 1;
     }
     if end <= 8 * out.len() {
         put_bytes(out, pos, s);
-        return end;
     }
     end
-}
-
-fn least(a: usize, b: usize) -> usize
-    ensures { (result ≤ a) × (result ≤ b) × (result < a → result ≡ b) }
-{
-    if a < b { a } else { b }
 }
 
 // A text or bytes: what of the n bytes from `at` the message has.
@@ -473,8 +382,8 @@ pub fn write_blob(m: &[u8], out: &mut [u8], pos: usize, at: usize, n: usize) -> 
     requires { Room out.old pos }
     ensures { Puts out.old pos (blob_bits (take n (drop at m.now))) out.new result }
 {
-    let a = least(at, m.len());
-    let k = least(n, m.len() - a);
+    let a = at.min(m.len());
+    let k = n.min(m.len() - a);
     let p = write(out, pos, 32, k as u64);
     write_bytes(out, p, &m[a..a + k])
 }

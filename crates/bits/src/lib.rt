@@ -3,13 +3,13 @@
 
 ghost use Rattle.std.specs.Prelude.{◌≡◌, ◌+◌, ◌-◌, ◌*◌, ◌/◌, ◌%◌, ◌^◌, ◌≤◌, ◌<◌};
 ghost use Rattle.bits.specs.Chunk.{Chunk, merged};
-ghost use Rattle.bits.specs.Reversed.{digit, reversed};
+ghost use Rattle.bits.specs.Reversed.{reversed};
 
 // Where in its byte a bit stands.
 pub fn offset(pos: usize) -> usize
     ensures { result ≡ pos % 8 }
 {
-    pos & 7
+    pos % 8
 }
 
 // The n low bits of v.
@@ -36,34 +36,28 @@ pub fn pair(hi: u64, lo: u64, n: usize) -> u64
     hi << n | lo
 }
 
-// The half of 64 bits above the 32 low ones.
-fn upper(x: u64) -> u64
-    ensures { (result ≡ x / 2 ^ 32) × (result < 2 ^ 32) }
-{
-    x >> 32
-}
-
 // The two halves of 64 bits, the lower one made the higher.
 pub fn exchanged(x: u64) -> u64
     ensures { result ≡ x % 2 ^ 32 * 2 ^ 32 + x / 2 ^ 32 }
 {
-    pair(low(x, 32), upper(x), 32)
+    x.rotate_left(32)
 }
 
 // The eight low bits of v.
 pub fn last_byte(v: u64) -> u8
     ensures { result ≡ v % 2 ^ 8 }
 {
-    (v & 255) as u8
+    (v % 256) as u8
 }
 
 // The byte that lies across p and x, a bits before the end of x. It is made in 16 bits: in 64 the loops over it were ten
 // times slower.
+// Kept: with `u16::from_be_bytes([p, x])` the loops over it are three to six times slower, as no byte of them is made beside another.
 pub fn across(p: u8, x: u8, a: usize) -> u8
     requires { a < 8 }
     ensures { result ≡ (p * 2 ^ 8 + x) / 2 ^ a % 2 ^ 8 }
 {
-    (((p as u16) << 8 | (x as u16)) >> a & 255) as u8
+    (((u16::from(p) << 8 | u16::from(x)) >> a) % 256) as u8
 }
 
 // b with its n bits above the k low ones replaced by x.
@@ -81,38 +75,12 @@ pub fn chunk(at: usize, left: usize) -> usize
     requires { 0 < left }
     ensures { Chunk at left result }
 {
-    let room = 8 - offset(at);
-    if room < left { room } else { left }
-}
-
-// ---- eight bits reversed. By pairs, fours and eights: in this form the compiler reverses them at once.
-// Bit k.
-fn one_bit(x: u8, k: usize) -> u64
-    requires { k < 8 }
-    ensures { (result ≡ digit x k) × (result < 2) }
-{
-    (x as u64) >> k & 1
-}
-
-// Two bits from bit k on, the first one highest.
-fn two_bits(x: u8, k: usize) -> u64
-    requires { k ≤ 6 }
-    ensures { (result ≡ digit x k * 2 + digit x (k + 1)) × (result < 2 ^ 2) }
-{
-    pair(one_bit(x, k), one_bit(x, k + 1), 1)
-}
-
-// Four bits from bit k on, the first one highest.
-fn four_bits(x: u8, k: usize) -> u64
-    requires { k ≤ 4 }
-    ensures { (result ≡ digit x k * 8 + digit x (k + 1) * 4 + digit x (k + 2) * 2 + digit x (k + 3)) × (result < 2 ^ 4) }
-{
-    pair(two_bits(x, k), two_bits(x, k + 2), 2)
+    left.min(8 - offset(at))
 }
 
 // Eight bits, the lowest of them made the highest: bools stand in a message from the lowest bit on, in a sheet from the highest.
 pub fn reversed(x: u8) -> u8
     ensures { result ≡ reversed x }
 {
-    pair(four_bits(x, 0), four_bits(x, 4), 4) as u8
+    x.reverse_bits()
 }

@@ -4,7 +4,7 @@
 // hold whole, or with a length over 64 KiB, ends the run.
 #![tactic(auto)]
 
-ghost use Rattle.std.specs.Prelude.{◌≡◌, ◌≤◌, ◌<◌, length, take};
+ghost use Rattle.std.specs.Prelude.{◌≡◌, ◌≤◌, length, take, IfSome};
 ghost use Rattle.std.specs.Io.KnownBytes.{Consumes};
 ghost use Rattle.coding.specs.Walk as W;
 
@@ -15,36 +15,30 @@ use std::io::Read;
 
 // How many bytes of the file were read to the start of buf: so many as are wanted, or none where the file does not give them all
 // or buf is too small.
-fn load<R: Read>(file: &mut R, buf: &mut [u8], count: usize) -> usize
-    ensures bound { result ≤ length buf.new }
-    ensures prefix { result ≡ length (take result buf.new) }
-    ensures all_or_none { 0 < result → result ≡ count }
-    ensures bytes { 0 < result → Consumes (R.remaining file.old) (R.remaining file.new) (take result buf.new) }
+fn load<R: Read>(file: &mut R, buf: &mut [u8], count: usize) -> Option<usize>
+    ensures bound { IfSome result (λ n. n ≤ length buf.new) }
+    ensures prefix { IfSome result (λ n. n ≡ length (take n buf.new)) }
+    ensures all_or_none { IfSome result (λ n. n ≡ count) }
+    ensures bytes { IfSome result (λ n. Consumes (R.remaining file.old) (R.remaining file.new) (take n buf.new)) }
 {
     if buf.len() < count {
-        return 0;
+        return None;
     }
     match file.read_exact(&mut buf[..count]) {
-        Ok(()) => count,
-        Err(_) => 0,
+        Ok(()) => Some(count),
+        Err(_) => None,
     }
-}
-
-fn wide(x: u8) -> u32 {
-    x as u32
 }
 
 // The number of four bytes from `at` on; bytes that are not there count as 0.
 fn number(head: &[u8], at: u8) -> u32 {
-    let i = at as usize;
-    wide(wire::byte(head, i))
-        | wide(wire::byte(head, i + 1)) << 8
-        | wide(wire::byte(head, i + 2)) << 16
-        | wide(wire::byte(head, i + 3)) << 24
-}
-
-fn print(rt: &impl Print, n: u64, end: char) -> io::Result<()> {
-    print!(rt; "{n}{end}")
+    let i = usize::from(at);
+    u32::from_le_bytes([
+        wire::byte(head, i),
+        wire::byte(head, i + 1),
+        wire::byte(head, i + 2),
+        wire::byte(head, i + 3),
+    ])
 }
 
 // The verdict by a schema, whose table of positions is made here. No table has more than 64 times 64 rows of twelve bytes, so that there is
@@ -63,9 +57,7 @@ fn verdict(schema: &[u8], message: &[u8], visits: u32, o: usize) -> Verdict
 }
 
 fn print_verdict(rt: &impl Print, v: Verdict) -> io::Result<()> {
-    print(rt, v.number as u64, ' ')?;
-    print(rt, v.place as u64, ' ')?;
-    print(rt, v.visits as u64, '\n')
+    println!(rt; "{} {} {}", v.number, v.place, v.visits)
 }
 
 // One case, whose width, lengths and budget were read: answers whether the file holds it whole.
@@ -78,12 +70,13 @@ fn judged<R: Read>(
     o: usize,
 ) -> io::Result<bool> {
     let mut schema = [0u8; 65536];
-    let s = load(file, &mut schema, schema_length);
-    let mut message = [0u8; 65536];
-    let m = load(file, &mut message, message_length);
-    if s != schema_length || m != message_length {
+    let Some(s) = load(file, &mut schema, schema_length) else {
         return Ok(false);
-    }
+    };
+    let mut message = [0u8; 65536];
+    let Some(m) = load(file, &mut message, message_length) else {
+        return Ok(false);
+    };
     print_verdict(rt, verdict(&schema[..s], &message[..m], budget, o))?;
     Ok(true)
 }
@@ -91,10 +84,9 @@ fn judged<R: Read>(
 // One case: answers whether the file holds it whole.
 fn one<R: Read>(rt: &impl Print, file: &mut R) -> io::Result<bool> {
     let mut head = [0u8; 16];
-    let n = load(file, &mut head, 16);
-    if n != 16 {
+    let Some(n) = load(file, &mut head, 16) else {
         return Ok(false);
-    }
+    };
     let o = wire::width_of(number(&head[..n], 0));
     let schema_length = number(&head[..n], 4) as usize;
     let message_length = number(&head[..n], 8) as usize;

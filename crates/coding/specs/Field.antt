@@ -1,6 +1,6 @@
 -- One field's answer at a path, through the same steps as the walk; a text as a part of the message; the list reader's
 -- answers. `o` is the width of an offset in bytes.
-use Rattle.std.specs.Prelude.{ℕ, zero, suc, ◌+◌, ◌*◌, ◌/◌, List, [], ◌∷◌, ◌++◌, Bool, true, false, length, take, drop, ltb, leb, eqb}
+use Rattle.std.specs.Prelude.{ℕ, zero, suc, ◌+◌, ◌*◌, ◌/◌, List, [], ◌∷◌, ◌++◌, Bool, true, false, length, take, drop, ltb, leb, eqb, Result, Ok, Err, Option, Some, None}
 use Rattle.coding.specs.Lists.{pick}
 use Rattle.coding.specs.Bytes.{deepest}
 use Rattle.coding.specs.Schema.{Schema, struct_of, field_of, element_of, table_of, member_of}
@@ -9,7 +9,7 @@ use Rattle.coding.specs.Lawful.{lawful}
 use Rattle.coding.specs.Structs.{total, struct_size}
 use Rattle.coding.specs.Layout.{begin, after_members}
 use Rattle.coding.specs.Step.{field_step, member_step, element_step}
-use Rattle.coding.specs.Walk.{placed, refusal, part_refusal, element_size, open_object, root_place, nothing, verdict_at, early, size_ok, start_ok}
+use Rattle.coding.specs.Walk.{placed, refusal, part_refusal, content_at, element_size, open_object, root_place, nothing, verdict_at, early, size_ok, start_ok}
 use Rattle.coding.specs.declared.Flat.{Flat}
 use Rattle.coding.specs.declared.Flat.TheVariants as F
 use Rattle.coding.specs.declared.Object.{Object}
@@ -20,15 +20,13 @@ use Rattle.coding.specs.declared.Place.{Place}
 use Rattle.coding.specs.declared.Place.TheVariants.{ByOffset, InPlace}
 use Rattle.coding.specs.declared.Step.{Step}
 use Rattle.coding.specs.declared.Step.TheVariants as St
-use Rattle.coding.specs.declared.Opened.{Opened}
-use Rattle.coding.specs.declared.Opened.TheVariants as Op
+use Rattle.coding.specs.declared.Content.{Content}
 use Rattle.coding.specs.declared.Found.{Found}
 use Rattle.coding.specs.declared.Found.TheVariants as Fd
 use Rattle.coding.specs.declared.Verdict.{Verdict}
 use Rattle.coding.specs.declared.Answer.{Answer}
 use Rattle.coding.specs.declared.Answer.TheVariants as A
 use Rattle.coding.specs.declared.Case.{Case}
-use Rattle.coding.specs.declared.Span.{Span}
 
 -- ---- where a path has come
 -- refusal 15: "path step has no such part", at the "last object judged"
@@ -36,9 +34,9 @@ unfoldable pub no_part : ℕ → Found
 no_part at = Fd.Refused (refusal 15 at)
 
 -- what an arrival finds: its refusal at the "object", or the object with its content, and d objects of depth left below it
-unfoldable pub opened : Object → ℕ → ℕ → Opened → Found
-opened ob at d (Op.Refused n) = Fd.Refused (refusal n at)
-opened ob at d (Op.Content start n) = Fd.Object ob at start n d
+unfoldable pub opened : Object → ℕ → ℕ → Result Content ℕ → Found
+opened ob at d (Err n) = Fd.Refused (refusal n at)
+opened ob at d (Ok c) = Fd.Object ob at c.start c.length d
 
 -- "Only objects and members on the path are judged (a struct as a whole), without budget": an arrival with d objects of
 -- depth left, this one counted; refusal 5: "deeper than 32"
@@ -185,39 +183,32 @@ answer_case A.Absent = record { case = 5; a = 0; b = 0; c = 0 }
 answer_case (A.Unknown x) = record { case = 6; a = x; b = 0; c = 0 }
 answer_case (A.Refused r) = record { case = 7; a = r.number; b = r.place; c = r.member }
 
--- ---- "texts and bytes can be had as a part of the message": the content where the answer is a text or bytes, else nothing
--- no "part of the message"
-unfoldable pub no_span : Span
-no_span = record { there = false; start = 0; length = 0 }
-
--- a "part of the message": n bytes from `start`
-unfoldable pub span_at : ℕ → ℕ → Span
-span_at start n = record { there = true; start = start; length = n }
-
--- the part that an object is: "texts and bytes", without header and end byte
-unfoldable pub object_span : Object → ℕ → ℕ → Span
-object_span O.Text start n = span_at start n
-object_span O.Bytes start n = span_at start n
-object_span (O.List i) start n = no_span
-object_span (O.Table i) start n = no_span
-object_span (O.DirectList t) start n = no_span
+-- ---- "texts and bytes can be had as a part of the message": the content where the answer is a text or bytes, else none
+-- the part that an object is, n bytes from `start`: "texts and bytes", without header and end byte
+unfoldable pub object_span : Object → ℕ → ℕ → Option Content
+object_span O.Text start n = Some (content_at start n)
+object_span O.Bytes start n = Some (content_at start n)
+object_span (O.List i) start n = None
+object_span (O.Table i) start n = None
+object_span (O.DirectList t) start n = None
 
 -- the part that a path has come to: "texts and bytes" only
-unfoldable pub found_span : Found → Span
-found_span (Fd.Refused r) = no_span
-found_span Fd.Absent = no_span
-found_span (Fd.Unknown x) = no_span
-found_span (Fd.Value k x holder) = no_span
-found_span (Fd.Struct i at holder) = no_span
+unfoldable pub found_span : Found → Option Content
+found_span (Fd.Refused r) = None
+found_span Fd.Absent = None
+found_span (Fd.Unknown x) = None
+found_span (Fd.Value k x holder) = None
+found_span (Fd.Struct i at holder) = None
 found_span (Fd.Object ob at start n d) = object_span ob start n
 
 -- "texts and bytes can be had as a part of the message": where it stands, at a path
-unfoldable pub field_span : ℕ → List ℕ → List ℕ → List ℕ → Span
+unfoldable pub field_span : ℕ → List ℕ → List ℕ → List ℕ → Option Content
 field_span o b m path = found_span (field_found o b m path)
 
--- the bytes of a "part of the message"
-unfoldable pub text_of : List ℕ → Span → List ℕ
-text_of m p = take p.length (drop p.start m)
+-- the bytes of a "part of the message"; none where there is none
+unfoldable pub text_of : List ℕ → Option Content → List ℕ
+text_of m None = []
+text_of m (Some c) = take c.length (drop c.start m)
 
 -- "texts and bytes can be had as a part of the message": its bytes, at a path
 unfoldable pub field_text : ℕ → List ℕ → List ℕ → List ℕ → List ℕ

@@ -1,6 +1,6 @@
 -- The walk: which objects a message leads to, in which order, and the first refusal.
 -- `o` is the width of an offset in bytes. Where a sentence says U48, the older coding has a U32 (02, K5).
-use Rattle.std.specs.Prelude.{ℕ, zero, suc, ◌+◌, ◌*◌, List, [], ◌∷◌, Bool, true, false, ◌&&◌, length, get_or, take, drop, ltb, leb, eqb}
+use Rattle.std.specs.Prelude.{ℕ, zero, suc, ◌+◌, ◌*◌, List, [], ◌∷◌, Bool, true, false, ◌&&◌, length, get_or, take, drop, ltb, leb, eqb, Result, Ok, Err}
 use Rattle.coding.specs.Lists.{pick}
 use Rattle.coding.specs.Bytes.{le, largest, deepest}
 use Rattle.coding.specs.Utf8.{is_text}
@@ -18,13 +18,10 @@ use Rattle.coding.specs.declared.Place.{Place}
 use Rattle.coding.specs.declared.Place.TheVariants.{ByOffset, InPlace}
 use Rattle.coding.specs.declared.Step.{Step}
 use Rattle.coding.specs.declared.Step.TheVariants as St
-use Rattle.coding.specs.declared.Opened.{Opened}
-use Rattle.coding.specs.declared.Opened.TheVariants as Op
+use Rattle.coding.specs.declared.Content.{Content}
 use Rattle.coding.specs.declared.Budget.{Budget}
 use Rattle.coding.specs.declared.Spent.{Spent}
 use Rattle.coding.specs.declared.Refusal.{Refusal}
-use Rattle.coding.specs.declared.Walked.{Walked}
-use Rattle.coding.specs.declared.Walked.TheVariants.{Going, Refused}
 use Rattle.coding.specs.declared.Verdict.{Verdict}
 
 -- ---- an arrival: header, magic, content, end byte, text
@@ -107,21 +104,25 @@ text_ok m (O.List i) start n = true
 text_ok m (O.Table i) start n = true
 text_ok m (O.DirectList t) start n = true
 
+-- content of length n at `start`
+abbrev pub content_at : ℕ → ℕ → Content
+content_at start n = record { start = start; length = n }
+
 -- "content fit": content of length n at `start`, of the object at a place; refusal 6, "content does not fit"
-unfoldable pub fit_content : ℕ → Schema → List ℕ → Object → ℕ → ℕ → ℕ → Opened
+unfoldable pub fit_content : ℕ → Schema → List ℕ → Object → ℕ → ℕ → ℕ → Result Content ℕ
 fit_content o S m ob at start n =
-    pick (leb (start + content_size o S m ob at n) (length m)) (Op.Content start n) (Op.Refused 6)
+    pick (leb (start + content_size o S m ob at n) (length m)) (Ok (content_at start n)) (Err 6)
 
 -- what the header of a direct list of table t at a place says more. 02, K1: "wrong element id is 7, then a count over 4,294,967,295 is
 -- 6, both at the list's arrival, after its magic and before content fit": `fit` is the content fit
-unfoldable pub direct_header : ℕ → Schema → List ℕ → ℕ → ℕ → Opened → Opened
+unfoldable pub direct_header : ℕ → Schema → List ℕ → ℕ → ℕ → Result Content ℕ → Result Content ℕ
 direct_header o S m t at fit =
     pick (eqb (element_id o m at) (table_of S t).id)
-    (pick (leb (le m (at + 4) o) most_elements) fit (Op.Refused 6))
-    (Op.Refused 7)
+    (pick (leb (le m (at + 4) o) most_elements) fit (Err 6))
+    (Err 7)
 
 -- the same of any object at a place: only a direct list's header says more than magic and length
-unfoldable pub header_tested : ℕ → Schema → List ℕ → Object → ℕ → Opened → Opened
+unfoldable pub header_tested : ℕ → Schema → List ℕ → Object → ℕ → Result Content ℕ → Result Content ℕ
 header_tested o S m O.Text at fit = fit
 header_tested o S m O.Bytes at fit = fit
 header_tested o S m (O.List i) at fit = fit
@@ -138,25 +139,25 @@ stands_in_place (O.DirectList t) = false
 
 -- "offset and header fit, magic, content fit"; refusals 6 "offset under 10, or header or content does not fit" and 7 "wrong
 -- object magic". "Offsets count from the message's first byte." In place there is no header.
-unfoldable pub fit_object : ℕ → Schema → List ℕ → Object → Place → Opened
+unfoldable pub fit_object : ℕ → Schema → List ℕ → Object → Place → Result Content ℕ
 fit_object o S m ob (ByOffset x) =
     pick (leb (start_size o) x && leb (x + header_size o ob) (length m))
     (pick (eqb (le m x 4) (magic S ob))
     (header_tested o S m ob x (fit_content o S m ob x (x + header_size o ob) (le m (x + 4) o)))
-    (Op.Refused 7))
-    (Op.Refused 6)
-fit_object o S m ob (InPlace a n) = pick (stands_in_place ob) (fit_content o S m ob a a n) (Op.Refused 6)
+    (Err 7))
+    (Err 6)
+fit_object o S m ob (InPlace a n) = pick (stands_in_place ob) (fit_content o S m ob a a n) (Err 6)
 
 -- "text's end byte": the test of an object's bytes once its content fits, of a text its end byte; refusal 10, "text end
 -- byte not 0". Then, 02, K2: "16 at the text's place, after the end byte".
-unfoldable pub bytes_tested : List ℕ → Object → Opened → Opened
-bytes_tested m ob (Op.Refused n) = Op.Refused n
-bytes_tested m ob (Op.Content start n) =
-    pick (end_ok m ob start n) (pick (text_ok m ob start n) (Op.Content start n) (Op.Refused 16)) (Op.Refused 10)
+unfoldable pub bytes_tested : List ℕ → Object → Result Content ℕ → Result Content ℕ
+bytes_tested m ob (Err n) = Err n
+bytes_tested m ob (Ok c) =
+    pick (end_ok m ob c.start c.length) (pick (text_ok m ob c.start c.length) (Ok c) (Err 16)) (Err 10)
 
 -- "Judged at an arrival: ... offset and header fit, magic, content fit, text's end byte." and the text (02, K2), with nothing charged:
 -- one field is read "without budget"
-unfoldable pub open_object : ℕ → Schema → List ℕ → Object → Place → Opened
+unfoldable pub open_object : ℕ → Schema → List ℕ → Object → Place → Result Content ℕ
 open_object o S m ob p = bytes_tested m ob (fit_object o S m ob p)
 
 -- ---- members, elements and the arrivals that they lead to
@@ -173,15 +174,19 @@ refusal n at = record { number = n; place = at; member = no_member }
 abbrev pub part_refusal : ℕ → ℕ → ℕ → Refusal
 part_refusal n holder j = record { number = n; place = holder; member = j }
 
+-- what the walk comes to: what was spent; or a refusal, and what was spent before it
+abbrev pub Walked : Type 0
+Walked = Result Spent (Refusal × Spent)
+
 -- a refusal with its number and place, after what was spent: "Judging answers number, place and visits"; 02, K7: "The verdict
 -- record reports both."
 unfoldable pub refuse : ℕ → ℕ → Spent → Walked
-refuse n at s = Refused (refusal n at) s
+refuse n at s = Err (refusal n at, s)
 
 -- "The first failure ends the walk."
 unfoldable pub and_then : Walked → (Spent → Walked) → Walked
-and_then (Going s) next = next s
-and_then (Refused r s) next = Refused r s
+and_then (Ok s) next = next s
+and_then (Err (r, s)) next = Err (r, s)
 
 -- what the walk does at an arrival at an object: "the arrival it leads to"
 abbrev pub Child : Type 0
@@ -189,7 +194,7 @@ Child = Object → Place → Spent → Walked
 
 -- a refusal of part j of the object at `holder`, after what was spent
 unfoldable pub refuse_part : ℕ → ℕ → ℕ → Spent → Walked
-refuse_part n holder j s = Refused (part_refusal n holder j) s
+refuse_part n holder j s = Err (part_refusal n holder j, s)
 
 -- where a union's choice leads, of part j of a holder; refusal 9: "known union choice, not in place, offset 0", at the
 -- "holder"
@@ -202,46 +207,46 @@ follow_choice child holder j ob (InPlace a n) s = child ob (InPlace a n) s
 -- member." An unknown enum or choice: "Neither is refused."
 unfoldable pub follow : Child → ℕ → ℕ → Step → Spent → Walked
 follow child holder j (St.Refused n) s = refuse_part n holder j s
-follow child holder j St.Absent s = Going s
-follow child holder j (St.Value x) s = Going s
-follow child holder j (St.Unknown x) s = Going s
-follow child holder j (St.Struct i at) s = Going s
+follow child holder j St.Absent s = Ok s
+follow child holder j (St.Value x) s = Ok s
+follow child holder j (St.Unknown x) s = Ok s
+follow child holder j (St.Struct i at) s = Ok s
 follow child holder j (St.Object ob p) s = child ob p s
 follow child holder j (St.Choice c ob p) s = follow_choice child holder j ob p s
 
 -- "Then each member or element in turn": the members of a table at `holder`, from member j on, whose fixed part has n bytes
 -- from `start`
 unfoldable pub members : Child → ℕ → Schema → List ℕ → ℕ → ℕ → ℕ → Cursor → ℕ → List Member → Spent → Walked
-members child o S m holder start n c j [] s = Going s
+members child o S m holder start n c j [] s = Ok s
 members child o S m holder start n c j (r ∷ rs) s =
     and_then (follow child holder j (member_step o S m start n c r) s)
     (members child o S m holder start n (after_member o S r c) (j + 1) rs)
 
 -- "Then each member or element in turn": n elements of a list at `holder`, from element i on
 unfoldable pub elements : Child → ℕ → Schema → List ℕ → ℕ → ℕ → Kind → ℕ → ℕ → Spent → Walked
-elements child o S m holder start k zero i s = Going s
+elements child o S m holder start k zero i s = Ok s
 elements child o S m holder start k (suc n) i s =
     and_then (follow child holder i (element_step o S m k start i) s) (elements child o S m holder start k n (i + 1))
 
 -- 02, K1: "The list is one visit, each element one more and one deeper, placed at its first byte.": n elements of a direct list of
 -- table t, each of w bytes, the first at a place. Each is a table's fixed part without a header.
 unfoldable pub directs : Child → ℕ → ℕ → ℕ → ℕ → Spent → Walked
-directs child t w zero at s = Going s
+directs child t w zero at s = Ok s
 directs child t w (suc n) at s = and_then (child (O.Table t) (InPlace at w) s) (directs child t w n (at + w))
 
 -- "tables lead to lists and unions, and those lead back to tables": what the content of the object at `holder` leads to;
 -- texts and bytes lead to nothing
 unfoldable pub content : Child → ℕ → Schema → List ℕ → Object → ℕ → ℕ → ℕ → Spent → Walked
-content child o S m O.Text holder start n s = Going s
-content child o S m O.Bytes holder start n s = Going s
+content child o S m O.Text holder start n s = Ok s
+content child o S m O.Bytes holder start n s = Ok s
 content child o S m (O.List i) holder start n s = elements child o S m holder start (element_of S i) n 0 s
 content child o S m (O.Table i) holder start n s = members child o S m holder start n begin 0 (table_of S i).members s
 content child o S m (O.DirectList t) holder start n s = directs child t (element_size o m holder) n start s
 
 -- what the arrival found at the object at `holder`: a refusal, at the "object", or the content
-unfoldable pub enter : Child → ℕ → Schema → List ℕ → Object → ℕ → Opened → Spent → Walked
-enter child o S m ob holder (Op.Refused n) s = refuse n holder s
-enter child o S m ob holder (Op.Content start n) s = content child o S m ob holder start n s
+unfoldable pub enter : Child → ℕ → Schema → List ℕ → Object → ℕ → Result Content ℕ → Spent → Walked
+enter child o S m ob holder (Err n) s = refuse n holder s
+enter child o S m ob holder (Ok c) s = content child o S m ob holder c.start c.length s
 
 -- ---- an arrival: the two allowances
 -- "Budget: any 32-bit unsigned number."; 02, K7: "a content allowance, any 64-bit unsigned number, beside visits": so many
@@ -268,11 +273,11 @@ with_content c s = spending s.visits (s.content + c)
 -- what the fit found at the object at `holder`: a refusal, at the "object"; or content, which is charged before its bytes are
 -- tested. 02, K7: "17, exactly if the sum would pass the allowance, at the object, after content fits and before its bytes are
 -- judged; such an arrival counts as a visit but adds no content". So a text refused by 10 or by 16 has added its length.
-unfoldable pub admit : Child → ℕ → Schema → List ℕ → Budget → Object → ℕ → Opened → Spent → Walked
-admit child o S m b ob holder (Op.Refused n) s = refuse n holder s
-admit child o S m b ob holder (Op.Content start n) s =
-    pick (leb (s.content + content_length o S ob n) b.content)
-    (enter child o S m ob holder (bytes_tested m ob (Op.Content start n)) (with_content (content_length o S ob n) s))
+unfoldable pub admit : Child → ℕ → Schema → List ℕ → Budget → Object → ℕ → Result Content ℕ → Spent → Walked
+admit child o S m b ob holder (Err n) s = refuse n holder s
+admit child o S m b ob holder (Ok c) s =
+    pick (leb (s.content + content_length o S ob c.length) b.content)
+    (enter child o S m ob holder (bytes_tested m ob (Ok c)) (with_content (content_length o S ob c.length) s))
     (refuse 17 holder s)
 
 -- an arrival after visits and depth: "offset and header fit, magic, content fit", the content allowance, "text's end byte. Then
@@ -323,8 +328,8 @@ at_zero n s = verdict_at (refusal n 0) s
 
 -- "Judging answers number, place and visits": of a walk that ended without a refusal, "accepted", 0 at 0
 unfoldable pub verdict_of : Walked → Verdict
-verdict_of (Going s) = at_zero 0 s
-verdict_of (Refused r s) = verdict_at r s
+verdict_of (Ok s) = at_zero 0 s
+verdict_of (Err (r, s)) = verdict_at r s
 
 -- what a verdict says was spent: "Judging answers number, place and visits"; 02, K7: "The verdict record reports both."
 abbrev pub spent_of : Verdict → Spent

@@ -51,6 +51,7 @@ pub enum Role {
 // ---- the fixed part of a table
 
 // The layout cursor: the bytes laid out so far, the last bool byte and its next free bit (8: none is free).
+// Kept: the next free bit is the count of the bits taken; 8 is the count of a full byte and is compared as a number (bit < 8).
 #[derive(Clone, Copy)]
 pub struct Cursor {
     pub end: usize,
@@ -67,6 +68,7 @@ pub struct Slot {
 }
 
 // Where a member stands in its fixed part: its value's slot, and its flag's, which counts only where the member has one.
+// Kept: whether there is a flag is said by the member (has_flag); an Option would say it once more, with an arm that never comes.
 #[derive(Clone, Copy)]
 pub struct Placement {
     pub value: Slot,
@@ -75,6 +77,7 @@ pub struct Placement {
 
 // A member's row in the table of positions: the first bit of its value in the fixed part, that of its flag (4294967295 where it
 // has none), and its size in bits.
+// Kept: a row is the three numbers that the stored table has (row_bytes), 4294967295 among them.
 #[derive(Clone, Copy)]
 pub struct Row {
     pub value: usize,
@@ -94,6 +97,7 @@ pub enum Place {
 
 // What stands at a member or an element: a refusal's number; no value; a value's bits; an unknown enum or choice; a
 // struct with its index and place; an object; a union's choice and its object.
+// Kept: a refusal is one of seven cases, which one match tells apart; a Result would need that match and one around it.
 #[derive(Clone, Copy)]
 pub enum Step {
     Refused(u8),
@@ -105,11 +109,12 @@ pub enum Step {
     Choice(u16, Object, Place),
 }
 
-// What an arrival finds: a refusal's number; or where the content starts, and its length.
+// An object's content: where it starts, and its length. An arrival finds it, or a refusal's number; a text or bytes as a part of
+// the message are it too.
 #[derive(Clone, Copy)]
-pub enum Opened {
-    Refused(u8),
-    Content(usize, usize),
+pub struct Content {
+    pub start: usize,
+    pub length: usize,
 }
 
 // What may be spent: visits, and bytes of content.
@@ -127,6 +132,7 @@ pub struct Spent {
 }
 
 // Its number and place, and the number in its holder of the member or element that it is about; 4294967295 where it is about none.
+// Kept: these are the numbers that the C interface hands out (scalgo_judge, scalgo_field), and that the theorems name.
 #[derive(Clone, Copy)]
 pub struct Refusal {
     pub number: u8,
@@ -134,15 +140,10 @@ pub struct Refusal {
     pub member: u32,
 }
 
-#[derive(Clone, Copy)]
-pub enum Walked {
-    Going(Spent),
-    Refused(Refusal, Spent),
-}
-
 // What a path has come to: a refusal; no value; an unknown enum or choice; a value of a kind; a struct with its index and
 // place; an object with its place, where its content starts, its length, and how many objects of depth are left below it.
 // Value and Struct end with the place of the last object judged.
+// Kept: a refusal is one of three cases that end a path (with Absent and Unknown); a Result would take out one of them.
 #[derive(Clone, Copy)]
 pub enum Found {
     Refused(Refusal),
@@ -156,6 +157,7 @@ pub enum Found {
 // ---- the answers
 
 // The member is a refusal's; 4294967295 where there is none.
+// Kept: the five numbers of the C interface's verdict, in which 0 says that the message is accepted.
 #[derive(Clone, Copy)]
 pub struct Verdict {
     pub number: u8,
@@ -166,6 +168,7 @@ pub struct Verdict {
 }
 
 // Reading to a sheet: the verdict, or 14 with what it spent, and the length of what was written.
+// Kept: the C interface hands out both on every answer (scalgo_read), on a refusal with the length 0.
 #[derive(Clone, Copy)]
 pub struct ReadAnswer {
     pub verdict: Verdict,
@@ -173,6 +176,7 @@ pub struct ReadAnswer {
 }
 
 // Writing a message: 0, 1, 11, 12, 13 or 14, and the length of what was written. Making the table of positions: 0, 1 or 14 of these.
+// Kept: the C interface hands out both on every answer (scalgo_write, scalgo_positions), on a refusal with the length 0.
 #[derive(Clone, Copy)]
 pub struct WriteAnswer {
     pub number: u8,
@@ -181,6 +185,7 @@ pub struct WriteAnswer {
 
 // One field: a boolean; a number's bits, its width in bits and whether it has a sign; a float's bits and its width; an
 // object's record kind (13 to 16, 18), place and length; a struct's place; absent; unknown with its number; a refusal.
+// Kept: the cases are the answers of the C interface one by one (scalgo_field), a refusal among them.
 #[derive(Clone, Copy)]
 pub enum Answer {
     Boolean(bool),
@@ -194,18 +199,11 @@ pub enum Answer {
 }
 
 // An answer as a case number and three numbers; what a case does not use is 0.
+// Kept: the C interface takes these four numbers (scalgo_field, scalgo_list), which cannot be given an enum.
 #[derive(Clone, Copy)]
 pub struct Case {
     pub case: u32,
     pub a: u64,
     pub b: u64,
     pub c: u64,
-}
-
-// Where a text or bytes stand in the message: whether there is one, where it starts, and its length.
-#[derive(Clone, Copy)]
-pub struct Span {
-    pub there: bool,
-    pub start: usize,
-    pub length: usize,
 }

@@ -1,5 +1,5 @@
 -- The values of an accepted message are values that the schema can show.
-use Rattle.std.specs.Prelude.{◌≡◌, true, ◌&&◌, ◌⊎◌, length, get_or, take, drop, ltb, eqb}
+use Rattle.std.specs.Prelude.{◌≡◌, true, ◌&&◌, ◌⊎◌, length, get_or, take, drop, ltb, eqb, Result, Ok, Err}
 use Rattle.std.proofs.Math.Path.{refl, ap}
 use Rattle.std.proofs.Common.{inl, inr, length-take, length-drop, leb-true}
 use mathlib.Core.List.{List, [], ◌∷◌}
@@ -16,7 +16,7 @@ use Rattle.coding.specs.Structs.{flat_width}
 use Rattle.coding.specs.Layout.{width, flat_is_bool, is_bool, begin, after_member}
 use Rattle.coding.specs.Step.{elements_size}
 use Rattle.coding.specs.Walk as W
-use Rattle.coding.specs.Walk.{placed, magic, header_size, element_id, element_size, most_elements, start_size, content_size, content_length, end_ok, text_ok, fit_content, direct_header, header_tested, stands_in_place, fit_object, bytes_tested, refuse, refuse_part, and_then, follow_choice, follow, content, enter, with_content, admit, arrive, too_deep, one_more, counted, visit, root_place, nothing, walk, verdict_of, early, size_ok, start_ok, verdict}
+use Rattle.coding.specs.Walk.{placed, magic, header_size, element_id, element_size, most_elements, start_size, content_size, content_length, end_ok, text_ok, fit_content, direct_header, header_tested, stands_in_place, fit_object, bytes_tested, refuse, refuse_part, and_then, follow_choice, follow, content, enter, with_content, admit, arrive, too_deep, one_more, counted, visit, root_place, nothing, walk, verdict_of, early, size_ok, start_ok, verdict, content_at, Walked}
 use Rattle.coding.specs.Value.{count}
 use Rattle.coding.specs.Read as R
 use Rattle.coding.specs.Read.{step_read, struct_read, members_read, elements_read, directs_read, content_read, place_read, read, message_read}
@@ -30,13 +30,10 @@ use Rattle.coding.specs.declared.Cursor.{Cursor}
 use Rattle.coding.specs.declared.Place.{Place}
 use Rattle.coding.specs.declared.Place.TheVariants.{ByOffset, InPlace}
 use Rattle.coding.specs.declared.Step.{Step}
-use Rattle.coding.specs.declared.Opened.{Opened}
-use Rattle.coding.specs.declared.Opened.TheVariants as Op
+use Rattle.coding.specs.declared.Content.{Content}
 use Rattle.coding.specs.declared.Budget.{Budget}
 use Rattle.coding.specs.declared.Spent.{Spent}
 use Rattle.coding.specs.declared.Refusal.{Refusal}
-use Rattle.coding.specs.declared.Walked.{Walked}
-use Rattle.coding.specs.declared.Walked.TheVariants.{Going, Refused}
 use Rattle.coding.specs.declared.Verdict.{Verdict}
 use Rattle.laws.specs.Sound.{All, KindSound, NoStruct, Sound}
 use Rattle.laws.specs.Lists.{both_right, pick_holds}
@@ -47,8 +44,8 @@ use Rattle.demands.specs.StepShown.{StepShown, step_refused, step_absent, step_v
 
 -- ---- how a walk ends: it goes on, and P holds, or it is refused by a number
 pub data Ends (P : Type 0) : Walked → Type 0 where
-  goes : {s : Spent} → P → Ends P (Going s)
-  stops : {r : Refusal} {s : Spent} → 0 < r.number → Ends P (Refused r s)
+  goes : {s : Spent} → P → Ends P (Ok s)
+  stops : {r : Refusal} {s : Spent} → 0 < r.number → Ends P (Err (r, s))
 
 refuse_ends : {P : Type 0} (n at : ℕ) (s : Spent) → 0 < n → Ends P (refuse n at s)
 unfolding refuse
@@ -71,7 +68,7 @@ pub map_ends : {P Q : Type 0} {w : Walked} → (P → Q) → Ends P w → Ends Q
 map_ends f (goes p) = goes (f p)
 map_ends f (stops n) = stops n
 
-pub ends_going : {P : Type 0} {w : Walked} {s : Spent} → w ≡ Going s → Ends P w → P
+pub ends_going : {P : Type 0} {w : Walked} {s : Spent} → w ≡ Ok s → Ends P w → P
 ends_going e (goes p) = p
 ends_going e (stops n) = absurd (let z : ◌≡◌ {A = ℕ} 0 1 = cc in omega arith)
 
@@ -195,41 +192,41 @@ module _ (S : Schema) (G : Sound S) (m : List ℕ) (small : (i : ℕ) → get_or
         map_ends (λ h. direct_list {vs = vs} (rw (directs-count t w n start) (most n f)) h) (directs_ends t w n start s)
 
     -- an arrival that found content of length n at `start`, or a refusal
-    Enters : Object → ℕ → ℕ → ℕ → Spent → Opened → Type 0
+    Enters : Object → ℕ → ℕ → ℕ → Spent → Result Content ℕ → Type 0
     Enters ob holder start n s opened = Ends (ContentShown shown S ob (content_read reader o S m ob holder start n)) (enter child o S m ob holder opened s)
 
-    refused_enters : (ob : Object) (holder start n k : ℕ) (s : Spent) → 0 < k → Enters ob holder start n s (Op.Refused k)
+    refused_enters : (ob : Object) (holder start n k : ℕ) (s : Spent) → 0 < k → Enters ob holder start n s (Err k)
     unfolding Enters enter
     refused_enters ob holder start n k s l = refuse_ends k holder s l
 
     content_enters : (ob : Object) (holder start n : ℕ) (s : Spent) → start + content_size o S m ob holder n ≤ length m → Few ob n
-        → Enters ob holder start n s (Op.Content start n)
+        → Enters ob holder start n s (Ok (content_at start n))
     unfolding Enters enter
     content_enters ob holder start n s l f = content_ends ob holder start n s l f
 
     -- the same where the content is not charged and the bytes are not tested yet
-    Fits : Budget → Object → ℕ → ℕ → ℕ → Spent → Opened → Type 0
+    Fits : Budget → Object → ℕ → ℕ → ℕ → Spent → Result Content ℕ → Type 0
     Fits b ob holder start n s fit =
         Ends (ContentShown shown S ob (content_read reader o S m ob holder start n)) (admit child o S m b ob holder fit s)
 
-    refused_fits : (b : Budget) (ob : Object) (holder start n k : ℕ) (s : Spent) → 0 < k → Fits b ob holder start n s (Op.Refused k)
+    refused_fits : (b : Budget) (ob : Object) (holder start n k : ℕ) (s : Spent) → 0 < k → Fits b ob holder start n s (Err k)
     unfolding Fits admit
     refused_fits b ob holder start n k s l = refuse_ends k holder s l
 
     charged_fits : (b : Budget) (ob : Object) (holder start n : ℕ) (s : Spent) → start + content_size o S m ob holder n ≤ length m → Few ob n
-        → Fits b ob holder start n s (Op.Content start n)
+        → Fits b ob holder start n s (Ok (content_at start n))
     unfolding Fits admit bytes_tested Enters
     charged_fits b ob holder start n s l f =
         let P = ContentShown shown S ob (content_read reader o S m ob holder start n) in
         let c = content_length o S ob n in
         let E = Enters ob holder start n (with_content c s) in
-        let judged = pick (text_ok m ob start n) (Op.Content start n) (Op.Refused 16) in
+        let judged = pick (text_ok m ob start n) (Ok (content_at start n)) (Err 16) in
         pick_holds (Ends P) (leb (s.content + c) b.content)
-        (enter child o S m ob holder (pick (end_ok m ob start n) judged (Op.Refused 10)) (with_content c s)) (refuse 17 holder s)
+        (enter child o S m ob holder (pick (end_ok m ob start n) judged (Err 10)) (with_content c s)) (refuse 17 holder s)
         (λ e.
-        pick_holds E (end_ok m ob start n) judged (Op.Refused 10)
+        pick_holds E (end_ok m ob start n) judged (Err 10)
         (λ t.
-        pick_holds E (text_ok m ob start n) (Op.Content start n) (Op.Refused 16)
+        pick_holds E (text_ok m ob start n) (Ok (content_at start n)) (Err 16)
         (λ u. content_enters ob holder start n (with_content c s) l f)
         (λ u. refused_enters ob holder start n 16 (with_content c s) (omega arith)))
         (λ t. refused_enters ob holder start n 10 (with_content c s) (omega arith)))
@@ -239,12 +236,12 @@ module _ (S : Schema) (G : Sound S) (m : List ℕ) (small : (i : ℕ) → get_or
         → Fits b ob holder start n s (fit_content o S m ob holder start n)
     unfolding fit_content
     content_fits b ob holder start n s f =
-        pick_holds (Fits b ob holder start n s) (leb (start + content_size o S m ob holder n) (length m)) (Op.Content start n) (Op.Refused 6)
+        pick_holds (Fits b ob holder start n s) (leb (start + content_size o S m ob holder n) (length m)) (Ok (content_at start n)) (Err 6)
         (λ e. charged_fits b ob holder start n s (leb-true (start + content_size o S m ob holder n) (length m) e) f)
         (λ e. refused_fits b ob holder start n 6 s (omega arith))
 
     -- what a direct list's header says more
-    header_fits : (b : Budget) (ob : Object) (x start : ℕ) (s : Spent) (fit : Opened)
+    header_fits : (b : Budget) (ob : Object) (x start : ℕ) (s : Spent) (fit : Result Content ℕ)
         → (Few ob (le m (x + 4) o) → Fits b ob x start (le m (x + 4) o) s fit)
         → Fits b ob x start (le m (x + 4) o) s (header_tested o S m ob x fit)
     unfolding header_tested direct_header
@@ -255,9 +252,9 @@ module _ (S : Schema) (G : Sound S) (m : List ℕ) (small : (i : ℕ) → get_or
     header_fits b (O.DirectList t) x start s fit h =
         let n = le m (x + 4) o in
         let P = Fits b (O.DirectList t) x start n s in
-        pick_holds P (eqb (element_id o m x) (table_of S t).id) (pick (leb n most_elements) fit (Op.Refused 6)) (Op.Refused 7)
+        pick_holds P (eqb (element_id o m x) (table_of S t).id) (pick (leb n most_elements) fit (Err 6)) (Err 7)
         (λ e.
-        pick_holds P (leb n most_elements) fit (Op.Refused 6) (λ f. h (leb-true n most_elements f))
+        pick_holds P (leb n most_elements) fit (Err 6) (λ f. h (leb-true n most_elements f))
         (λ f. refused_fits b (O.DirectList t) x start n 6 s (omega arith)))
         (λ e. refused_fits b (O.DirectList t) x start n 7 s (omega arith))
 
@@ -270,14 +267,14 @@ module _ (S : Schema) (G : Sound S) (m : List ℕ) (small : (i : ℕ) → get_or
         let P = Fits b ob x start n s in
         let fit = fit_content o S m ob x start n in
         let opened = header_tested o S m ob x fit in
-        let inner = pick (eqb (le m x 4) (magic S ob)) opened (Op.Refused 7) in
-        pick_holds P (leb (start_size o) x && leb start (length m)) inner (Op.Refused 6)
+        let inner = pick (eqb (le m x 4) (magic S ob)) opened (Err 7) in
+        pick_holds P (leb (start_size o) x && leb start (length m)) inner (Err 6)
         (λ e.
-        pick_holds P (eqb (le m x 4) (magic S ob)) opened (Op.Refused 7) (λ t. header_fits b ob x start s fit (content_fits b ob x start n s))
+        pick_holds P (eqb (le m x 4) (magic S ob)) opened (Err 7) (λ t. header_fits b ob x start s fit (content_fits b ob x start n s))
         (λ t. refused_fits b ob x start n 7 s (omega arith)))
         (λ e. refused_fits b ob x start n 6 s (omega arith))
     arrival_ends b ob (InPlace a n) s =
-        pick_holds (Fits b ob a a n s) (stands_in_place ob) (fit_content o S m ob a a n) (Op.Refused 6)
+        pick_holds (Fits b ob a a n s) (stands_in_place ob) (fit_content o S m ob a a n) (Err 6)
         (λ e. content_fits b ob a a n s (stands_few ob n e)) (λ e. refused_fits b ob a a n 6 s (omega arith))
 
   counted_ends : (P : Type 0) (child : W.Child) (b : Budget) (ob : Object) (p : Place) → ((s : Spent) → Ends P (child ob p s))

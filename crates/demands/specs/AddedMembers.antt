@@ -1,6 +1,6 @@
 -- The members that a newer schema adds to a table with a full fixed part of an older one: each is absent, or a plain bool that
 -- is 0, in the last bool byte.
-use Rattle.std.specs.Prelude.{ℕ, ◌≤◌, ◌<◌, ◌+◌, Bool, ◌&&◌, not, ◌≡◌, eqb}
+use Rattle.std.specs.Prelude.{ℕ, ◌≤◌, ◌<◌, ◌+◌, Bool, ◌&&◌, not, ◌≡◌, eqb, Ok}
 use Rattle.std.proofs.Common.{le_refl, arith, ◌∙◌}
 use mathlib.Core.List.{List, [], ◌∷◌}
 use Rattle.std.proofs.Math.Bool.{true, false}
@@ -26,7 +26,6 @@ use Rattle.coding.specs.declared.Slot.{Slot}
 use Rattle.coding.specs.declared.Step.{Step}
 use Rattle.coding.specs.declared.Step.TheVariants as St
 use Rattle.coding.specs.declared.Spent.{Spent}
-use Rattle.coding.specs.declared.Walked.TheVariants.{Going}
 use Rattle.demands.specs.PlainMessage.{Full}
 
 -- a cursor past a fixed part of n bytes, but for free bits, which are 0
@@ -184,13 +183,13 @@ module _ (m : List ℕ) (start n : ℕ) where
       by (OfUnion i) e = wide (rw e)
 
   -- ---- the added members are passed by, and read as they should
-  follow_added : (child : W.Child) (holder j : ℕ) (t : Bool) (s : Spent) → follow child holder j (pick t (St.Value 0) St.Absent) s ≡ Going s
+  follow_added : (child : W.Child) (holder j : ℕ) (t : Bool) (s : Spent) → follow child holder j (pick t (St.Value 0) St.Absent) s ≡ Ok s
   unfolding follow
   follow_added child holder j true s = refl
   follow_added child holder j false s = refl
 
   pub walk_added : (child : W.Child) (o : ℕ) (S : Schema) (holder j : ℕ) (rs : List Member) (c : Cursor) (s : Spent) → Past m start n c
-      → members child o S m holder start n c j rs s ≡ Going s
+      → members child o S m holder start n c j rs s ≡ Ok s
   unfolding members and_then
   walk_added child o S holder j [] c s f = refl
   walk_added child o S holder j (r ∷ rs) c s f =

@@ -1,14 +1,14 @@
 -- What is reached in a message and what is lawful, apart from the walk, with no order and nothing handed on: the root is
 -- reached, and so is whatever a part of a reached object leads to; and what the arrivals cost, a shared object at each of its
 -- arrivals. `o` is the width of an offset in bytes.
-use Rattle.std.specs.Prelude.{ℕ, zero, suc, ◌≤◌, ◌<◌, ◌+◌, ◌*◌, List, true, ◌≡◌, length, get_or, take}
+use Rattle.std.specs.Prelude.{ℕ, zero, suc, ◌≤◌, ◌<◌, ◌+◌, ◌*◌, List, true, ◌≡◌, length, get_or, take, Result, Ok, Err}
 use Rattle.coding.specs.Bytes.{deepest}
 use Rattle.coding.specs.Schema.{Schema, element_of, table_of, plain_bool}
 use Rattle.coding.specs.Packed.{parse}
 use Rattle.coding.specs.Lawful.{lawful}
 use Rattle.coding.specs.Layout.{begin, after_members}
 use Rattle.coding.specs.Step.{member_step, element_step}
-use Rattle.coding.specs.Walk.{placed, element_size, content_length, fit_object, open_object, spending, nothing, root_place, size_ok, start_ok}
+use Rattle.coding.specs.Walk.{placed, element_size, content_length, fit_object, open_object, spending, nothing, root_place, size_ok, start_ok, content_at}
 use Rattle.coding.specs.declared.Object.{Object}
 use Rattle.coding.specs.declared.Object.TheVariants as Ob
 use Rattle.coding.specs.declared.Member.{Member}
@@ -17,8 +17,7 @@ use Rattle.coding.specs.declared.Place.{Place}
 use Rattle.coding.specs.declared.Place.TheVariants.{ByOffset, InPlace}
 use Rattle.coding.specs.declared.Step.{Step}
 use Rattle.coding.specs.declared.Step.TheVariants as St
-use Rattle.coding.specs.declared.Opened.{Opened}
-use Rattle.coding.specs.declared.Opened.TheVariants as Op
+use Rattle.coding.specs.declared.Content.{Content}
 use Rattle.coding.specs.declared.Budget.{Budget}
 use Rattle.coding.specs.declared.Spent.{Spent}
 use Rattle.demands.specs.Spending.{plus}
@@ -60,7 +59,7 @@ pub data LeadsTo : Step → Object → Place → Type 0 where
 pub data Arrives (o : ℕ) (S : Schema) (m : List ℕ) : ℕ → Object → Place → Type 0 where
   root : Arrives o S m 1 (Ob.Table S.root) (root_place o m)
   below : {d : ℕ} {ob ob' : Object} {p p' : Place} (start n j : ℕ) → Arrives o S m d ob p
-      → open_object o S m ob p ≡ Op.Content start n → j < part_count S ob n → LeadsTo (part_step o S m ob (placed p) start n j) ob' p'
+      → open_object o S m ob p ≡ Ok (content_at start n) → j < part_count S ob n → LeadsTo (part_step o S m ob (placed p) start n j) ob' p'
       → Arrives o S m (suc d) ob' p'
 
 -- ---- what is lawful
@@ -84,7 +83,7 @@ LawfulStep (St.Choice c ob p) = PlaceGiven p
 pub record LawfulObject (o : ℕ) (S : Schema) (m : List ℕ) (ob : Object) (p : Place) : Type 0 where
   pub start : ℕ
   pub size : ℕ
-  pub opens : open_object o S m ob p ≡ Op.Content start size
+  pub opens : open_object o S m ob p ≡ Ok (content_at start size)
   pub parts : (j : ℕ) → j < part_count S ob size → LawfulStep (part_step o S m ob (placed p) start size j)
 
 -- ---- what the arrivals cost, "shared objects each time, in-place ones too"
@@ -104,15 +103,15 @@ cost_at child (St.Object ob p) = child ob p
 cost_at child (St.Choice c ob p) = child ob p
 
 -- the parts of an object that was opened
-unfoldable pub cost_in : (Object → Place → Spent) → ℕ → Schema → List ℕ → Object → ℕ → Opened → Spent
-cost_in child o S m ob at (Op.Refused n) = nothing
-cost_in child o S m ob at (Op.Content start n) = sum (λ j. cost_at child (part_step o S m ob at start n j)) (part_count S ob n)
+unfoldable pub cost_in : (Object → Place → Spent) → ℕ → Schema → List ℕ → Object → ℕ → Result Content ℕ → Spent
+cost_in child o S m ob at (Err n) = nothing
+cost_in child o S m ob at (Ok c) = sum (λ j. cost_at child (part_step o S m ob at c.start c.length j)) (part_count S ob c.length)
 
 -- 02, K7: "Each arrival whose content fits adds its content length"; "a direct list itself adds 0", and each of its elements its fixed
 -- part
-unfoldable pub charge : ℕ → Schema → Object → Opened → ℕ
-charge o S ob (Op.Refused n) = 0
-charge o S ob (Op.Content start n) = content_length o S ob n
+unfoldable pub charge : ℕ → Schema → Object → Result Content ℕ → ℕ
+charge o S ob (Err n) = 0
+charge o S ob (Ok c) = content_length o S ob c.length
 
 -- the arrivals at an object and below it, d objects deep: "Every arrival at an object counts one visit", and adds its content
 unfoldable pub cost : ℕ → ℕ → Schema → List ℕ → Object → Place → Spent

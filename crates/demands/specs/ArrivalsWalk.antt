@@ -4,7 +4,7 @@ use Prim.Native.Nat.{ℕ, zero, suc, ◌≤◌, ◌<◌, ◌+◌}
 use Rattle.std.proofs.Common.{add-zero, sym, ap₂, ◌∙◌}
 use native.Mathlib.Omega.{arith}
 use mathlib.Core.List.{List, [], ◌∷◌}
-use Rattle.std.specs.Prelude.{Bool, ◌≡◌, length, ltb}
+use Rattle.std.specs.Prelude.{Bool, ◌≡◌, length, ltb, Result, Ok, Err}
 use Rattle.std.proofs.Math.Bool.{true, false}
 use Rattle.std.proofs.Math.Path.{refl, ap, subst}
 use Rattle.std.proofs.Math.Dec.{leb, eqb}
@@ -14,7 +14,7 @@ use Rattle.coding.specs.Bytes.{deepest}
 use Rattle.coding.specs.Schema.{Schema, element_of, table_of}
 use Rattle.coding.specs.Layout.{begin, after_member, after_members}
 use Rattle.coding.specs.Step.{member_step, element_step}
-use Rattle.coding.specs.Walk.{placed, element_size, content_length, fit_object, bytes_tested, open_object, refuse, and_then, Child, refuse_part, follow_choice, follow, members, elements, directs, content, enter, spending, one_more, with_content, admit, arrive, too_deep, counted, visit, root_place, nothing}
+use Rattle.coding.specs.Walk.{placed, element_size, content_length, fit_object, bytes_tested, open_object, refuse, and_then, Child, refuse_part, follow_choice, follow, members, elements, directs, content, enter, spending, one_more, with_content, admit, arrive, too_deep, counted, visit, root_place, nothing, content_at, Walked}
 use Rattle.coding.specs.declared.Object.{Object}
 use Rattle.coding.specs.declared.Object.TheVariants as Ob
 use Rattle.coding.specs.declared.Kind.{Kind}
@@ -24,13 +24,10 @@ use Rattle.coding.specs.declared.Place.{Place}
 use Rattle.coding.specs.declared.Place.TheVariants.{ByOffset, InPlace}
 use Rattle.coding.specs.declared.Step.{Step}
 use Rattle.coding.specs.declared.Step.TheVariants as St
-use Rattle.coding.specs.declared.Opened.{Opened}
-use Rattle.coding.specs.declared.Opened.TheVariants as Op
+use Rattle.coding.specs.declared.Content.{Content}
 use Rattle.coding.specs.declared.Budget.{Budget}
 use Rattle.coding.specs.declared.Spent.{Spent}
 use Rattle.coding.specs.declared.Refusal.{Refusal}
-use Rattle.coding.specs.declared.Walked.{Walked}
-use Rattle.coding.specs.declared.Walked.TheVariants.{Going, Refused}
 use Rattle.laws.specs.DirectPlaces.{element-first, element_next}
 use Rattle.demands.specs.Spending.{plus, Affords, no_more_trans, plus-nothing, plus-plus, plus-part, one_more-plus, with-content-plus, arrival-plus, one_more_affords, with-content_affords, no-visit, no-content}
 use Rattle.demands.specs.RefusalNumbers.{NumberedStep, NumberedOpened, member_numbered, element_numbered, fit_numbered, bytes_numbered}
@@ -39,8 +36,8 @@ use Rattle.demands.specs.Arrivals.{part_count, member_at, direct_at, part_step, 
 -- ---- a walk that is judged
 -- a walk from s that goes on exactly when P holds and k more is within the budget, and has spent that then
 pub data Judged (b : Budget) (P : Type 0) (k s : Spent) : Walked → Type 0 where
-  goes : (t : Spent) → t ≡ plus s k → Affords b t → P → Judged b P k s (Going t)
-  stops : (r : Refusal) (t : Spent) → 0 < r.number → (P → Affords b (plus s k) → ⊥) → Judged b P k s (Refused r t)
+  goes : (t : Spent) → t ≡ plus s k → Affords b t → P → Judged b P k s (Ok t)
+  stops : (r : Refusal) (t : Spent) → 0 < r.number → (P → Affords b (plus s k) → ⊥) → Judged b P k s (Err (r, t))
 
 module _ {b : Budget} where
   judged_as : {P Q : Type 0} {k s : Spent} {w : Walked} → (P → Q) → (Q → P) → Judged b P k s w → Judged b Q k s w
@@ -56,7 +53,7 @@ module _ {b : Budget} where
   judged_never (goes t e h p) = absurd p
   judged_never (stops r t z n) = stops r t z (λ q h. q)
 
-  judged_stay : {P : Type 0} (s : Spent) → Affords b s → P → Judged b P nothing s (Going s)
+  judged_stay : {P : Type 0} (s : Spent) → Affords b s → P → Judged b P nothing s (Ok s)
   judged_stay s h p = goes s (sym (plus-nothing s)) h p
 
   judged-refuse : {P : Type 0} (k s : Spent) (n at : ℕ) → 0 < n → (P → Affords b (plus s k) → ⊥) → Judged b P k s (refuse n at s)
@@ -100,9 +97,9 @@ pub record PartLawful (P : Object → Place → Type 0) (st : Step) : Type 0 whe
   pub step : LawfulStep st
   pub object : (ob : Object) (p : Place) → LeadsTo st ob p → P ob p
 
-abbrev pub ContentLawful : (Object → Place → Type 0) → ℕ → Schema → List ℕ → Object → ℕ → Opened → Type 0
-ContentLawful P o S m ob at (Op.Refused n) = ⊥
-ContentLawful P o S m ob at (Op.Content start n) = (j : ℕ) → j < part_count S ob n → PartLawful P (part_step o S m ob at start n j)
+abbrev pub ContentLawful : (Object → Place → Type 0) → ℕ → Schema → List ℕ → Object → ℕ → Result Content ℕ → Type 0
+ContentLawful P o S m ob at (Err n) = ⊥
+ContentLawful P o S m ob at (Ok c) = (j : ℕ) → j < part_count S ob c.length → PartLawful P (part_step o S m ob at c.start c.length j)
 
 -- an object and all that is reached from it, d objects deep, is lawful
 unfoldable pub LawfulDown : ℕ → ℕ → Schema → List ℕ → Object → Place → Type 0
@@ -113,7 +110,7 @@ module _ (b : Budget) (P : Object → Place → Type 0) (k : Object → Place �
     (H : (ob : Object) (p : Place) (s : Spent) → Affords b s → Judged b (P ob p) (k ob p) s (child ob p s)) where
   -- ---- one part
   still : (st : Step) → LawfulStep st → EachObject P st → (s : Spent) → Affords b s
-      → Judged b (PartLawful P st) nothing s (Going s)
+      → Judged b (PartLawful P st) nothing s (Ok s)
   still st l e s h = judged_stay s h (record { step = l; object = λ ob p q. led_to P e q })
 
   choice_judged : (holder j c : ℕ) (ob : Object) (p : Place) (s : Spent) → Affords b s
@@ -212,34 +209,34 @@ module _ (b : Budget) (P : Object → Place → Type 0) (k : Object → Place �
     content_judged (Ob.DirectList t) at start n s h =
         directs_judged t (element_size o m at) n start (direct_at t (element_size o m at) start) (λ j. refl) s h
 
-    enter_judged : (ob : Object) (at : ℕ) (p : Opened) → NumberedOpened p → (s : Spent) → Affords b s
+    enter_judged : (ob : Object) (at : ℕ) (p : Result Content ℕ) → NumberedOpened p → (s : Spent) → Affords b s
         → Judged b (ContentLawful P o S m ob at p) (cost_in k o S m ob at p) s (enter child o S m ob at p s)
     unfolding enter cost_in EachPart
-    enter_judged ob holder (Op.Refused n) z s h = judged-refuse nothing s n holder z (λ q g. q)
-    enter_judged ob holder (Op.Content start n) z s h = content_judged ob holder start n s h
+    enter_judged ob holder (Err n) z s h = judged-refuse nothing s n holder z (λ q g. q)
+    enter_judged ob holder (Ok c) z s h = content_judged ob holder c.start c.length s h
 
-    admit_judged : (ob : Object) (at : ℕ) (u : Opened) → NumberedOpened u → (s : Spent) → Affords b s
+    admit_judged : (ob : Object) (at : ℕ) (u : Result Content ℕ) → NumberedOpened u → (s : Spent) → Affords b s
         → Judged b (ContentLawful P o S m ob at (bytes_tested m ob u))
         (plus (spending 0 (charge o S ob u)) (cost_in k o S m ob at (bytes_tested m ob u))) s (admit child o S m b ob at u s)
     unfolding admit charge
-    admit_judged ob holder (Op.Refused n) z s h = unfold bytes_tested in judged-refuse _ s n holder z (λ q g. q)
-    admit_judged ob at (Op.Content start n) z s h = by (leb (s.content + content_length o S ob n) b.content) refl
+    admit_judged ob holder (Err n) z s h = unfold bytes_tested in judged-refuse _ s n holder z (λ q g. q)
+    admit_judged ob at (Ok c) z s h = by (leb (s.content + content_length o S ob c.length) b.content) refl
       where
-        by : (t : Bool) → leb (s.content + content_length o S ob n) b.content ≡ t
-            → Judged b (ContentLawful P o S m ob at (bytes_tested m ob (Op.Content start n)))
-            (plus (spending 0 (content_length o S ob n)) (cost_in k o S m ob at (bytes_tested m ob (Op.Content start n)))) s
+        by : (t : Bool) → leb (s.content + content_length o S ob c.length) b.content ≡ t
+            → Judged b (ContentLawful P o S m ob at (bytes_tested m ob (Ok c)))
+            (plus (spending 0 (content_length o S ob c.length)) (cost_in k o S m ob at (bytes_tested m ob (Ok c)))) s
             (pick t
-            (enter child o S m ob at (bytes_tested m ob (Op.Content start n)) (with_content (content_length o S ob n) s))
+            (enter child o S m ob at (bytes_tested m ob (Ok c)) (with_content (content_length o S ob c.length) s))
             (refuse 17 at s))
         by true e =
-            judged-from (with-content-plus (content_length o S ob n) s (cost_in k o S m ob at (bytes_tested m ob (Op.Content start n))))
-            (enter_judged ob at (bytes_tested m ob (Op.Content start n)) (bytes_numbered m ob (Op.Content start n) tt)
-            (with_content (content_length o S ob n) s)
-            (with-content_affords b (content_length o S ob n) s h (leb-true (s.content + content_length o S ob n) b.content e)))
+            judged-from (with-content-plus (content_length o S ob c.length) s (cost_in k o S m ob at (bytes_tested m ob (Ok c))))
+            (enter_judged ob at (bytes_tested m ob (Ok c)) (bytes_numbered m ob (Ok c) tt)
+            (with_content (content_length o S ob c.length) s)
+            (with-content_affords b (content_length o S ob c.length) s h (leb-true (s.content + content_length o S ob c.length) b.content e)))
         by false e =
             judged-refuse _ s 17 at (omega arith)
-            (λ q g. no-content b (content_length o S ob n) s (cost_in k o S m ob at (bytes_tested m ob (Op.Content start n)))
-            (leb-false (s.content + content_length o S ob n) b.content e) g)
+            (λ q g. no-content b (content_length o S ob c.length) s (cost_in k o S m ob at (bytes_tested m ob (Ok c)))
+            (leb-false (s.content + content_length o S ob c.length) b.content e) g)
 
 -- ---- an arrival
 counted_judged : (b : Budget) (P : Type 0) (k : Spent) (child : Child) (ob : Object) (p : Place)
@@ -296,14 +293,14 @@ cost-same (suc d) (suc e) o S m ob p h x =
     ap (plus (spending 1 (charge o S ob (fit_object o S m ob p))))
     (opened (open_object o S m ob p) x (λ ob' p' y. cost-same d e o S m ob' p' (omega arith) y))
   where
-    opened : (u : Opened) → ContentLawful (LawfulDown d o S m) o S m ob (placed p) u
+    opened : (u : Result Content ℕ) → ContentLawful (LawfulDown d o S m) o S m ob (placed p) u
         → ((ob' : Object) (p' : Place) → LawfulDown d o S m ob' p' → cost e o S m ob' p' ≡ cost d o S m ob' p')
         → cost_in (cost e o S m) o S m ob (placed p) u ≡ cost_in (cost d o S m) o S m ob (placed p) u
-    opened (Op.Refused n) c q = refl
-    opened (Op.Content start n) c q =
-        sum_same _ _ (part_count S ob n)
+    opened (Err n) c q = refl
+    opened (Ok x) c q =
+        sum_same _ _ (part_count S ob x.length)
         (λ j l.
-        at_same (cost e o S m) (cost d o S m) (part_step o S m ob (placed p) start n j) (λ ob' p' t. q ob' p' ((c j l).object ob' p' t)))
+        at_same (cost e o S m) (cost d o S m) (part_step o S m ob (placed p) x.start x.length j) (λ ob' p' t. q ob' p' ((c j l).object ob' p' t)))
 
 -- ---- from any depth left to all arrivals, and back
 module _ (o : ℕ) (S : Schema) (m : List ℕ) where
@@ -315,10 +312,10 @@ module _ (o : ℕ) (S : Schema) (m : List ℕ) where
   down_arrives h (below {d} {ob} {ob'} {p} {p'} start n j a e l q) =
       let x = down_arrives h a in step x.0 x.1 x.2
     where
-      content : (left : ℕ) (u : Opened) → u ≡ Op.Content start n → ContentLawful (LawfulDown left o S m) o S m ob (placed p) u
+      content : (left : ℕ) (u : Result Content ℕ) → u ≡ Ok (content_at start n) → ContentLawful (LawfulDown left o S m) o S m ob (placed p) u
           → LawfulDown left o S m ob' p'
       content left u f c =
-          (subst (λ (v : Opened). ContentLawful (LawfulDown left o S m) o S m ob (placed p) v) f c j l).object ob' p' q
+          (subst (λ (v : Result Content ℕ). ContentLawful (LawfulDown left o S m) o S m ob (placed p) v) f c j l).object ob' p' q
 
       step : (left : ℕ) → d + left ≡ suc deepest → LawfulDown left o S m ob p
           → (left : ℕ) × (suc d + left ≡ suc deepest) × LawfulDown left o S m ob' p'
@@ -335,9 +332,9 @@ module _ (o : ℕ) (S : Schema) (m : List ℕ) where
   down-lawful zero ob p x = absurd x
   down-lawful (suc left) ob p x = opened (open_object o S m ob p) refl x
     where
-      opened : (u : Opened) → open_object o S m ob p ≡ u → ContentLawful (LawfulDown left o S m) o S m ob (placed p) u → LawfulObject o S m ob p
-      opened (Op.Refused n) e c = absurd c
-      opened (Op.Content start n) e c = record { start = start; size = n; opens = e; parts = λ j l. (c j l).step }
+      opened : (u : Result Content ℕ) → open_object o S m ob p ≡ u → ContentLawful (LawfulDown left o S m) o S m ob (placed p) u → LawfulObject o S m ob p
+      opened (Err n) e c = absurd c
+      opened (Ok x) e c = record { start = x.start; size = x.length; opens = e; parts = λ j l. (c j l).step }
 
   -- every arrival lawful and not too deep: then each is lawful as far as its depth goes
   pub arrives_down : ((d : ℕ) (ob : Object) (p : Place) → Arrives o S m d ob p → d ≤ deepest)
@@ -347,7 +344,7 @@ module _ (o : ℕ) (S : Schema) (m : List ℕ) where
   arrives_down depth lawful zero d ob p a e = let l = depth d ob p a in absurd (omega arith)
   arrives_down depth lawful (suc left) d ob p a e =
       let x = lawful d ob p a in
-      subst (λ (u : Opened). ContentLawful (LawfulDown left o S m) o S m ob (placed p) u) (sym x.opens)
+      subst (λ (u : Result Content ℕ). ContentLawful (LawfulDown left o S m) o S m ob (placed p) u) (sym x.opens)
       (λ j l.
       record {
         step = x.parts j l;

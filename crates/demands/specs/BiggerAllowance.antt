@@ -9,11 +9,10 @@ use Rattle.std.proofs.Math.Dec.{eqb}
 use Rattle.coding.specs.Lists.{pick}
 use Rattle.coding.specs.Packed.{parse}
 use Rattle.coding.specs.Lawful.{lawful}
-use Rattle.coding.specs.Walk.{walk, verdict_of, spent_of, early, size_ok, start_ok, verdict}
+use Rattle.coding.specs.Walk.{walk, verdict_of, spent_of, early, size_ok, start_ok, verdict, Walked}
 use Rattle.coding.specs.Message.{fits_room, read_answer, read_out}
 use Rattle.coding.specs.declared.Budget.{Budget}
 use Rattle.coding.specs.declared.Spent.{Spent}
-use Rattle.coding.specs.declared.Walked.{Walked}
 use Rattle.coding.specs.declared.Verdict.{Verdict}
 use Rattle.demands.specs.Spending.{NoMore, allowed, Affords}
 use Rattle.demands.specs.SpentGrows.{walked_spent, verdict_affords}

@@ -1,5 +1,5 @@
 -- What is known of a direct list that fits, and of its elements: each of them fits then.
-use Rattle.std.specs.Prelude.{◌≡◌, Bool, ◌&&◌, List, ltb}
+use Rattle.std.specs.Prelude.{◌≡◌, Bool, ◌&&◌, List, ltb, Result, Ok, Err}
 use Rattle.std.proofs.Math.Path.{refl}
 use Rattle.std.proofs.Math.Bool.{true, false}
 use Prim.Native.Nat.{ℕ, suc, ◌+◌, ◌*◌, ◌<◌, ◌≤◌}
@@ -15,8 +15,7 @@ use Rattle.coding.specs.Walk as W
 use Rattle.coding.specs.declared.Object.TheVariants as O
 use Rattle.coding.specs.declared.Place.{Place}
 use Rattle.coding.specs.declared.Place.TheVariants.{ByOffset, InPlace}
-use Rattle.coding.specs.declared.Opened.{Opened}
-use Rattle.coding.specs.declared.Opened.TheVariants as Op
+use Rattle.coding.specs.declared.Content.{Content}
 use Rattle.coding.specs.declared.Budget.{Budget}
 use Rattle.coding.specs.declared.Spent.{Spent}
 use Rattle.laws.specs.DirectPlaces.{element_fits}
@@ -29,35 +28,35 @@ pub record DirectFits (o : ℕ) (S : Schema) (m : List ℕ) (t x start n : ℕ) 
   pub few : n ≤ W.most_elements
   pub fits : start + n * W.element_size o m x ≤ length m
 
-not-content : {A : Type 0} (k start n : ℕ) → Op.Refused k ≡ Op.Content start n → A
+not-content : {A : Type 0} (k start n : ℕ) → Err k ≡ Ok (W.content_at start n) → A
 not-content k start n e = let z : ◌≡◌ {A = ℕ} 0 1 = cc in absurd (omega arith)
 
 -- ---- the list: it stands by offset
 module _ (o : ℕ) (S : Schema) (m : List ℕ) (t : ℕ) where
-  content_parts : (x s c start n : ℕ) → W.fit_content o S m (O.DirectList t) x s c ≡ Op.Content start n
+  content_parts : (x s c start n : ℕ) → W.fit_content o S m (O.DirectList t) x s c ≡ Ok (W.content_at start n)
       → (s ≡ start) × (c ≡ n) × (s + c * W.element_size o m x ≤ length m)
   unfolding W.fit_content W.content_size
   content_parts x s c start n e = by (leb (s + c * W.element_size o m x) (length m)) refl e
     where
-      by : (f : Bool) → leb (s + c * W.element_size o m x) (length m) ≡ f → pick f (Op.Content s c) (Op.Refused 6) ≡ Op.Content start n
+      by : (f : Bool) → leb (s + c * W.element_size o m x) (length m) ≡ f → pick {A = Result Content ℕ} f (Ok (W.content_at s c)) (Err 6) ≡ Ok (W.content_at start n)
           → (s ≡ start) × (c ≡ n) × (s + c * W.element_size o m x ≤ length m)
-      by true h q = let a : s ≡ start = cc in let b : c ≡ n = cc in (a, b, leb-true _ _ h)
+      by true h q = (grind arith, grind arith, leb-true _ _ h)
       by false h q = not-content 6 start n q
 
-  header_parts : (x start n : ℕ) (fit : Opened) → W.header_tested o S m (O.DirectList t) x fit ≡ Op.Content start n
-      → (W.element_id o m x ≡ (table_of S t).id) × (le m (x + 4) o ≤ W.most_elements) × (fit ≡ Op.Content start n)
+  header_parts : (x start n : ℕ) (fit : Result Content ℕ) → W.header_tested o S m (O.DirectList t) x fit ≡ Ok (W.content_at start n)
+      → (W.element_id o m x ≡ (table_of S t).id) × (le m (x + 4) o ≤ W.most_elements) × (fit ≡ Ok (W.content_at start n))
   unfolding W.header_tested W.direct_header
   header_parts x start n fit e =
       by (eqb (W.element_id o m x) (table_of S t).id) (leb (le m (x + 4) o) W.most_elements) refl refl e
     where
       by : (f g : Bool) → eqb (W.element_id o m x) (table_of S t).id ≡ f → leb (le m (x + 4) o) W.most_elements ≡ g
-          → pick f (pick g fit (Op.Refused 6)) (Op.Refused 7) ≡ Op.Content start n
-          → (W.element_id o m x ≡ (table_of S t).id) × (le m (x + 4) o ≤ W.most_elements) × (fit ≡ Op.Content start n)
+          → pick f (pick g fit (Err 6)) (Err 7) ≡ Ok (W.content_at start n)
+          → (W.element_id o m x ≡ (table_of S t).id) × (le m (x + 4) o ≤ W.most_elements) × (fit ≡ Ok (W.content_at start n))
       by true true h k q = (eqb-true _ _ h, leb-true _ _ k, q)
       by true false h k q = not-content 6 start n q
       by false g h k q = not-content 7 start n q
 
-  offset_parts : (x start n : ℕ) → W.fit_object o S m (O.DirectList t) (ByOffset x) ≡ Op.Content start n → DirectFits o S m t x start n
+  offset_parts : (x start n : ℕ) → W.fit_object o S m (O.DirectList t) (ByOffset x) ≡ Ok (W.content_at start n) → DirectFits o S m t x start n
   unfolding W.fit_object
   offset_parts x start n e =
       by (leb (W.start_size o) x && leb (x + W.header_size o (O.DirectList t)) (length m)) (eqb (le m x 4) (W.magic S (O.DirectList t))) e
@@ -65,10 +64,10 @@ module _ (o : ℕ) (S : Schema) (m : List ℕ) (t : ℕ) where
       s : ℕ
       s = x + W.header_size o (O.DirectList t)
 
-      fit : Opened
+      fit : Result Content ℕ
       fit = W.fit_content o S m (O.DirectList t) x s (le m (x + 4) o)
 
-      found : W.header_tested o S m (O.DirectList t) x fit ≡ Op.Content start n → DirectFits o S m t x start n
+      found : W.header_tested o S m (O.DirectList t) x fit ≡ Ok (W.content_at start n) → DirectFits o S m t x start n
       found q =
           let h = header_parts x start n fit q in
           let c = content_parts x s (le m (x + 4) o) start n h.2 in
@@ -78,27 +77,27 @@ module _ (o : ℕ) (S : Schema) (m : List ℕ) (t : ℕ) where
           let k = h.1 in
           record { behind = omega arith; counted = omega arith; id = h.0; few = omega arith; fits = rw (← a, ← b) f }
 
-      by : (f g : Bool) → pick f (pick g (W.header_tested o S m (O.DirectList t) x fit) (Op.Refused 7)) (Op.Refused 6) ≡ Op.Content start n
+      by : (f g : Bool) → pick f (pick g (W.header_tested o S m (O.DirectList t) x fit) (Err 7)) (Err 6) ≡ Ok (W.content_at start n)
           → DirectFits o S m t x start n
       by true true q = found q
       by true false q = not-content 7 start n q
       by false g q = not-content 6 start n q
 
   -- what a direct list that fits gives
-  pub direct_fits : (p : Place) (start n : ℕ) → W.fit_object o S m (O.DirectList t) p ≡ Op.Content start n → DirectFits o S m t (W.placed p) start n
+  pub direct_fits : (p : Place) (start n : ℕ) → W.fit_object o S m (O.DirectList t) p ≡ Ok (W.content_at start n) → DirectFits o S m t (W.placed p) start n
   unfolding W.placed W.fit_object W.stands_in_place
   direct_fits (ByOffset x) start n e = offset_parts x start n e
   direct_fits (InPlace a k) start n e = not-content 6 start n e
 
   -- ---- an element
-  pub element_fit : (a w : ℕ) → a + w ≤ length m → W.fit_object o S m (O.Table t) (InPlace a w) ≡ Op.Content a w
+  pub element_fit : (a w : ℕ) → a + w ≤ length m → W.fit_object o S m (O.Table t) (InPlace a w) ≡ Ok (W.content_at a w)
   unfolding W.fit_object W.fit_content W.stands_in_place W.content_size
   element_fit a w h = rw (le-leb (a + w) (length m) h)
 
   -- element j of a direct list that fits fits: at its arrival there is no 6, and no 7
-  pub element-of : (p : Place) (start n j : ℕ) → W.fit_object o S m (O.DirectList t) p ≡ Op.Content start n → j < n
+  pub element-of : (p : Place) (start n j : ℕ) → W.fit_object o S m (O.DirectList t) p ≡ Ok (W.content_at start n) → j < n
       → W.fit_object o S m (O.Table t) (InPlace (start + W.element_size o m (W.placed p) * j) (W.element_size o m (W.placed p)))
-      ≡ Op.Content (start + W.element_size o m (W.placed p) * j) (W.element_size o m (W.placed p))
+      ≡ Ok (W.content_at (start + W.element_size o m (W.placed p) * j) (W.element_size o m (W.placed p)))
   element-of p start n j e l =
       let w = W.element_size o m (W.placed p) in
       element_fit (start + w * j) w (element_fits start w j n (length m) l (direct_fits p start n e).fits)

@@ -1,6 +1,6 @@
 -- Where a path has come in the message, and which part of its tree that is: the two go together, step by step, as long as
 -- the walk goes on below.
-use Rattle.std.specs.Prelude.{◌≡◌, Bool, ◌&&◌, get_or, take, drop, eqb}
+use Rattle.std.specs.Prelude.{◌≡◌, Bool, ◌&&◌, get_or, take, drop, eqb, Result, Ok, Err}
 use Rattle.std.proofs.Math.Path.{refl, sym, subst, ap}
 use mathlib.Core.List.{List, [], ◌∷◌}
 use Rattle.std.proofs.Math.Bool.{true, false}
@@ -15,7 +15,7 @@ use Rattle.coding.specs.Schema.{Schema, struct_of, field_of, element_of, table_o
 use Rattle.coding.specs.Structs.{lower, by_index, total, struct_size}
 use Rattle.coding.specs.Layout.{begin, after_members}
 use Rattle.coding.specs.Step.{enum_step, field_step, member_step, element_step}
-use Rattle.coding.specs.Walk.{placed, refusal, part_refusal, magic, header_size, element_id, element_size, most_elements, start_size, content_size, content_length, end_ok, text_ok, fit_content, direct_header, header_tested, stands_in_place, fit_object, bytes_tested, open_object, refuse, refuse_part, follow, follow_choice, members, elements, directs, content, enter, with_content, admit, arrive, too_deep, one_more, counted, visit, root_place, nothing, walk}
+use Rattle.coding.specs.Walk.{placed, refusal, part_refusal, magic, header_size, element_id, element_size, most_elements, start_size, content_size, content_length, end_ok, text_ok, fit_content, direct_header, header_tested, stands_in_place, fit_object, bytes_tested, open_object, refuse, refuse_part, follow, follow_choice, members, elements, directs, content, enter, with_content, admit, arrive, too_deep, one_more, counted, visit, root_place, nothing, walk, content_at}
 use Rattle.coding.specs.Value as Tree
 use Rattle.coding.specs.Read as Read
 use Rattle.coding.specs.Field as Field
@@ -35,8 +35,7 @@ use Rattle.coding.specs.declared.Place.{Place}
 use Rattle.coding.specs.declared.Place.TheVariants.{ByOffset, InPlace}
 use Rattle.coding.specs.declared.Step.{Step}
 use Rattle.coding.specs.declared.Step.TheVariants as St
-use Rattle.coding.specs.declared.Opened.{Opened}
-use Rattle.coding.specs.declared.Opened.TheVariants as Op
+use Rattle.coding.specs.declared.Content.{Content}
 use Rattle.coding.specs.declared.Budget.{Budget}
 use Rattle.coding.specs.declared.Spent.{Spent}
 use Rattle.coding.specs.declared.Found.{Found}
@@ -44,7 +43,6 @@ use Rattle.coding.specs.declared.Found.TheVariants as Fd
 use Rattle.coding.specs.declared.Answer.{Answer}
 use Rattle.coding.specs.declared.Answer.TheVariants as A
 use Rattle.coding.specs.declared.Refusal.{Refusal}
-use Rattle.coding.specs.declared.Walked.TheVariants.{Going}
 
 -- the members of a struct, as its tree has them
 abbrev pub fields_of : Schema → List ℕ → ℕ → ℕ → Tree.Values
@@ -58,7 +56,7 @@ pub data Shows (o : ℕ) (S : Schema) (m : List ℕ) (b : Budget) : Found → E.
   bits : (k : Flat) (x holder : ℕ) → Shows o S m b (Fd.Value (OfFlat k) x holder) (E.Part.value k x)
   fields : (i at holder : ℕ) → Shows o S m b (Fd.Struct i at holder) (E.Part.struct i (fields_of S m i at))
   within : (ob : Object) (at start n d : ℕ) (s t : Spent)
-      → content (visit d o S m b) o S m ob at start n s ≡ Going t → start + content_size o S m ob at n ≤ length m
+      → content (visit d o S m b) o S m ob at start n s ≡ Ok t → start + content_size o S m ob at n ≤ length m
       → Shows o S m b (Fd.Object ob at start n d) (E.Part.object ob (Read.content_read (Read.read d o S m) o S m ob at start n))
 
 -- the tree of a struct of a lower index
@@ -102,14 +100,14 @@ place-present child o S m ob (InPlace a n) = content-present child o S m ob a a 
 module _ (o : ℕ) (S : Schema) (m : List ℕ) (b : Budget) where
   -- ---- an arrival
   module _ (d : ℕ) (ob : Object) (at : ℕ) (s t : Spent) where
-    content_shows : (start n : ℕ) → admit (visit d o S m b) o S m b ob at (fit_content o S m ob at start n) s ≡ Going t
+    content_shows : (start n : ℕ) → admit (visit d o S m b) o S m b ob at (fit_content o S m ob at start n) s ≡ Ok t
         → Shows o S m b (Field.opened ob at d (bytes_tested m ob (fit_content o S m ob at start n))) (E.Part.object ob (Read.content_read (Read.read d o S m) o S m ob at start n))
     unfolding fit_content bytes_tested admit enter Field.opened
     content_shows start n e = by (leb (start + content_size o S m ob at n) (length m)) refl e
       where
         tested : (g k : Bool) (u : Spent) → start + content_size o S m ob at n ≤ length m
-            → enter (visit d o S m b) o S m ob at (pick g (pick k (Op.Content start n) (Op.Refused 16)) (Op.Refused 10)) u ≡ Going t
-            → Shows o S m b (Field.opened ob at d (pick g (pick k (Op.Content start n) (Op.Refused 16)) (Op.Refused 10)))
+            → enter (visit d o S m b) o S m ob at (pick g (pick k (Ok (content_at start n)) (Err 16)) (Err 10)) u ≡ Ok t
+            → Shows o S m b (Field.opened ob at d (pick g (pick k (Ok (content_at start n)) (Err 16)) (Err 10)))
             (E.Part.object ob (Read.content_read (Read.read d o S m) o S m ob at start n))
         tested true true u h q = within ob at start n d u t q h
         tested true false u h q = absurd (refuse_going _ _ _ _ q)
@@ -117,33 +115,33 @@ module _ (o : ℕ) (S : Schema) (m : List ℕ) (b : Budget) where
 
         charged : (g : Bool) → start + content_size o S m ob at n ≤ length m
             → pick g
-            (enter (visit d o S m b) o S m ob at (bytes_tested m ob (Op.Content start n)) (with_content (content_length o S ob n) s))
+            (enter (visit d o S m b) o S m ob at (bytes_tested m ob (Ok (content_at start n))) (with_content (content_length o S ob n) s))
             (refuse 17 at s)
-            ≡ Going t
-            → Shows o S m b (Field.opened ob at d (bytes_tested m ob (Op.Content start n)))
+            ≡ Ok t
+            → Shows o S m b (Field.opened ob at d (bytes_tested m ob (Ok (content_at start n))))
             (E.Part.object ob (Read.content_read (Read.read d o S m) o S m ob at start n))
         charged true h q = tested (end_ok m ob start n) (text_ok m ob start n) (with_content (content_length o S ob n) s) h q
         charged false h q = absurd (refuse_going _ _ _ _ q)
 
         by : (f : Bool) → leb (start + content_size o S m ob at n) (length m) ≡ f
-            → admit (visit d o S m b) o S m b ob at (pick f (Op.Content start n) (Op.Refused 6)) s ≡ Going t
-            → Shows o S m b (Field.opened ob at d (bytes_tested m ob (pick f (Op.Content start n) (Op.Refused 6))))
+            → admit (visit d o S m b) o S m b ob at (pick f (Ok (content_at start n)) (Err 6)) s ≡ Ok t
+            → Shows o S m b (Field.opened ob at d (bytes_tested m ob (pick f (Ok (content_at start n)) (Err 6))))
             (E.Part.object ob (Read.content_read (Read.read d o S m) o S m ob at start n))
         by true h q = charged (leb (s.content + content_length o S ob n) b.content) (leb-true _ _ h) q
         by false h q = absurd (refuse_going _ _ _ _ q)
 
     -- what a direct list's header says more
-    header_shows : (v : Tree.Value) (fit : Opened)
-        → (admit (visit d o S m b) o S m b ob at fit s ≡ Going t
+    header_shows : (v : Tree.Value) (fit : Result Content ℕ)
+        → (admit (visit d o S m b) o S m b ob at fit s ≡ Ok t
         → Shows o S m b (Field.opened ob at d (bytes_tested m ob fit)) (E.Part.object ob v))
-        → admit (visit d o S m b) o S m b ob at (header_tested o S m ob at fit) s ≡ Going t
+        → admit (visit d o S m b) o S m b ob at (header_tested o S m ob at fit) s ≡ Ok t
         → Shows o S m b (Field.opened ob at d (bytes_tested m ob (header_tested o S m ob at fit))) (E.Part.object ob v)
     unfolding header_tested direct_header
     header_shows v fit h = of ob h
       where
         of : (x : Object)
-            → (admit (visit d o S m b) o S m b x at fit s ≡ Going t → Shows o S m b (Field.opened x at d (bytes_tested m x fit)) (E.Part.object x v))
-            → admit (visit d o S m b) o S m b x at (header_tested o S m x at fit) s ≡ Going t
+            → (admit (visit d o S m b) o S m b x at fit s ≡ Ok t → Shows o S m b (Field.opened x at d (bytes_tested m x fit)) (E.Part.object x v))
+            → admit (visit d o S m b) o S m b x at (header_tested o S m x at fit) s ≡ Ok t
             → Shows o S m b (Field.opened x at d (bytes_tested m x (header_tested o S m x at fit))) (E.Part.object x v)
         of O.Text h e = h e
         of O.Bytes h e = h e
@@ -153,21 +151,21 @@ module _ (o : ℕ) (S : Schema) (m : List ℕ) (b : Budget) where
             by (eqb (element_id o m at) (table_of S r).id) (leb (le m (at + 4) o) most_elements) e
           where
             by : (f g : Bool)
-                → admit (visit d o S m b) o S m b (O.DirectList r) at (pick f (pick g fit (Op.Refused 6)) (Op.Refused 7)) s ≡ Going t
-                → Shows o S m b (Field.opened (O.DirectList r) at d (bytes_tested m (O.DirectList r) (pick f (pick g fit (Op.Refused 6)) (Op.Refused 7))))
+                → admit (visit d o S m b) o S m b (O.DirectList r) at (pick f (pick g fit (Err 6)) (Err 7)) s ≡ Ok t
+                → Shows o S m b (Field.opened (O.DirectList r) at d (bytes_tested m (O.DirectList r) (pick f (pick g fit (Err 6)) (Err 7))))
                 (E.Part.object (O.DirectList r) v)
             by true true q = h q
             by true false q = absurd (unfold admit in refuse_going _ _ _ _ q)
             by false g q = absurd (unfold admit in refuse_going _ _ _ _ q)
 
   module _ (d : ℕ) (ob : Object) (s t : Spent) where
-    open_shows : (p : Place) → admit (visit d o S m b) o S m b ob (placed p) (fit_object o S m ob p) s ≡ Going t
+    open_shows : (p : Place) → admit (visit d o S m b) o S m b ob (placed p) (fit_object o S m ob p) s ≡ Ok t
         → Shows o S m b (Field.opened ob (placed p) d (open_object o S m ob p)) (E.Part.object ob (Read.place_read (Read.read d o S m) o S m ob p))
     unfolding open_object fit_object Read.place_read placed
     open_shows (InPlace a n) e = by (stands_in_place ob) e
       where
-        by : (f : Bool) → admit (visit d o S m b) o S m b ob a (pick f (fit_content o S m ob a a n) (Op.Refused 6)) s ≡ Going t
-            → Shows o S m b (Field.opened ob a d (bytes_tested m ob (pick f (fit_content o S m ob a a n) (Op.Refused 6))))
+        by : (f : Bool) → admit (visit d o S m b) o S m b ob a (pick f (fit_content o S m ob a a n) (Err 6)) s ≡ Ok t
+            → Shows o S m b (Field.opened ob a d (bytes_tested m ob (pick f (fit_content o S m ob a a n) (Err 6))))
             (E.Part.object ob (Read.content_read (Read.read d o S m) o S m ob a a n))
         by true q = content_shows d ob a s t a n q
         by false q = absurd (unfold admit in refuse_going _ _ _ _ q)
@@ -180,11 +178,11 @@ module _ (o : ℕ) (S : Schema) (m : List ℕ) (b : Budget) where
         n : ℕ
         n = le m (x + 4) o
 
-        fit : Opened
+        fit : Result Content ℕ
         fit = header_tested o S m ob x (fit_content o S m ob x start n)
 
-        by : (f g : Bool) → admit (visit d o S m b) o S m b ob x (pick f (pick g fit (Op.Refused 7)) (Op.Refused 6)) s ≡ Going t
-            → Shows o S m b (Field.opened ob x d (bytes_tested m ob (pick f (pick g fit (Op.Refused 7)) (Op.Refused 6))))
+        by : (f g : Bool) → admit (visit d o S m b) o S m b ob x (pick f (pick g fit (Err 7)) (Err 6)) s ≡ Ok t
+            → Shows o S m b (Field.opened ob x d (bytes_tested m ob (pick f (pick g fit (Err 7)) (Err 6))))
             (E.Part.object ob (Read.content_read (Read.read d o S m) o S m ob x start n))
         by true true q =
             header_shows d ob x s t (Read.content_read (Read.read d o S m) o S m ob x start n) (fit_content o S m ob x start n)
@@ -193,27 +191,27 @@ module _ (o : ℕ) (S : Schema) (m : List ℕ) (b : Budget) where
         by false g q = absurd (unfold admit in refuse_going _ _ _ _ q)
 
   -- with no depth left nothing goes on
-  too_deep_lem : (ob : Object) (p : Place) (s t : Spent) → visit zero o S m b ob p s ≡ Going t → ⊥
+  too_deep_lem : (ob : Object) (p : Place) (s t : Spent) → visit zero o S m b ob p s ≡ Ok t → ⊥
   unfolding visit counted too_deep
   too_deep_lem ob p s t e = by (ltb s.visits b.visits) e
     where
-      by : (f : Bool) → pick f (refuse 5 (placed p) (one_more s)) (refuse 4 (placed p) s) ≡ Going t → ⊥
+      by : (f : Bool) → pick f (refuse 5 (placed p) (one_more s)) (refuse 4 (placed p) s) ≡ Ok t → ⊥
       by true q = refuse_going _ _ _ _ q
       by false q = refuse_going _ _ _ _ q
 
-  pub arrived_shows : (d : ℕ) (ob : Object) (p : Place) (s t : Spent) → visit d o S m b ob p s ≡ Going t
+  pub arrived_shows : (d : ℕ) (ob : Object) (p : Place) (s t : Spent) → visit d o S m b ob p s ≡ Ok t
       → Shows o S m b (Field.arrived d o S m ob p) (E.Part.object ob (Read.read d o S m ob p))
   unfolding visit counted arrive Field.arrived Read.read
   arrived_shows zero ob p s t e = absurd (too_deep_lem ob p s t e)
   arrived_shows (suc d) ob p s t e = by (ltb s.visits b.visits) e
     where
       by : (f : Bool)
-          → pick f (admit (visit d o S m b) o S m b ob (placed p) (fit_object o S m ob p) (one_more s)) (refuse 4 (placed p) s) ≡ Going t
+          → pick f (admit (visit d o S m b) o S m b ob (placed p) (fit_object o S m ob p) (one_more s)) (refuse 4 (placed p) s) ≡ Ok t
           → Shows o S m b (Field.opened ob (placed p) d (open_object o S m ob p)) (E.Part.object ob (Read.place_read (Read.read d o S m) o S m ob p))
       by true q = open_shows d ob (one_more s) t p q
       by false q = absurd (refuse_going _ _ _ _ q)
 
-  read-present : (d : ℕ) (ob : Object) (p : Place) (s t : Spent) → visit d o S m b ob p s ≡ Going t
+  read-present : (d : ℕ) (ob : Object) (p : Place) (s t : Spent) → visit d o S m b ob p s ≡ Ok t
       → Tree.present (Read.read d o S m ob p) ≡ true
   unfolding visit Read.read
   read-present zero ob p s t e = absurd (too_deep_lem ob p s t e)
@@ -221,13 +219,13 @@ module _ (o : ℕ) (S : Schema) (m : List ℕ) (b : Budget) where
 
   -- ---- a step
   choice_shows : (d holder j : ℕ) (ob : Object) (p : Place) (s t : Spent)
-      → follow_choice (visit d o S m b) holder j ob p s ≡ Going t
+      → follow_choice (visit d o S m b) holder j ob p s ≡ Ok t
       → Shows o S m b (Field.chosen d o S m holder j ob p) (E.Part.object ob (Read.read d o S m ob p))
   unfolding follow_choice refuse_part Field.chosen Field.part_refused
   choice_shows d holder j ob (InPlace a n) s t e = arrived_shows d ob (InPlace a n) s t e
   choice_shows d holder j ob (ByOffset x) s t e = by (eqb x 0) e
     where
-      by : (f : Bool) → pick f (refuse_part 9 holder j s) (visit d o S m b ob (ByOffset x) s) ≡ Going t
+      by : (f : Bool) → pick f (refuse_part 9 holder j s) (visit d o S m b ob (ByOffset x) s) ≡ Ok t
           → Shows o S m b (pick f (Fd.Refused (part_refusal 9 holder j)) (Field.arrived d o S m ob (ByOffset x)))
           (E.Part.object ob (Read.read d o S m ob (ByOffset x)))
       by true q = absurd (refuse-part_going _ _ _ _ _ q)
@@ -294,7 +292,7 @@ module _ (o : ℕ) (S : Schema) (m : List ℕ) (b : Budget) where
             (all-at (FlatSound i) F.Boolean (struct_of S i) j (sound.structs i).members (ltb-true _ _ h)))
 
   list_shows : (i at start n d : ℕ) (s t : Spent)
-      → elements (visit d o S m b) o S m at start (element_of S i) n 0 s ≡ Going t → (j : ℕ)
+      → elements (visit d o S m b) o S m at start (element_of S i) n 0 s ≡ Ok t → (j : ℕ)
       → Shows o S m b
       (pick (ltb j n) (Field.stepped d o S m at j (element_of S i) (element_step o S m (element_of S i) start j)) (Field.no_part at))
       (pick (ltb j (Tree.count (Read.elements_read (Read.read d o S m) o S m start (element_of S i) n 0)))
@@ -315,7 +313,7 @@ module _ (o : ℕ) (S : Schema) (m : List ℕ) (b : Budget) where
           (rw zero-add at (elements_going (visit d o S m b) o S m at start n (element_of S i) n 0 s t e j (ltb-true _ _ h))))
 
   table_shows : (i at start n d : ℕ) (s t : Spent)
-      → members (visit d o S m b) o S m at start n begin 0 (table_of S i).members s ≡ Going t → (j : ℕ)
+      → members (visit d o S m b) o S m at start n begin 0 (table_of S i).members s ≡ Ok t → (j : ℕ)
       → Shows o S m b
       (pick (ltb j (length (table_of S i).members))
       (Field.stepped d o S m at j (member_of S i j).kind
@@ -344,7 +342,7 @@ module _ (o : ℕ) (S : Schema) (m : List ℕ) (b : Budget) where
           (rw zero-add at (members_going (visit d o S m b) o S m at start n (table_of S i).members begin 0 s t e j (ltb-true _ _ h))))
 
   direct_shows : (r at start n d : ℕ) (s t : Spent)
-      → directs (visit d o S m b) r (element_size o m at) n start s ≡ Going t → (j : ℕ)
+      → directs (visit d o S m b) r (element_size o m at) n start s ≡ Ok t → (j : ℕ)
       → Shows o S m b
       (pick (ltb j n) (Field.arrived d o S m (O.Table r) (InPlace (start + element_size o m at * j) (element_size o m at))) (Field.no_part at))
       (pick (ltb j (Tree.count (Read.directs_read (Read.read d o S m) r (element_size o m at) n start)))
@@ -367,7 +365,7 @@ module _ (o : ℕ) (S : Schema) (m : List ℕ) (b : Budget) where
           (arrived_shows d (O.Table r) (InPlace (start + w * j) w) g.from g.to g.goes)
 
   object_shows : (ob : Object) (at start n d : ℕ) (s t : Spent)
-      → content (visit d o S m b) o S m ob at start n s ≡ Going t → (j : ℕ)
+      → content (visit d o S m b) o S m ob at start n s ≡ Ok t → (j : ℕ)
       → Shows o S m b (Field.object_part o S m ob at start n d j)
       (E.object_part S ob (Tree.as_row (Read.content_read (Read.read d o S m) o S m ob at start n)) j)
   unfolding Field.object_part E.object_part Field.no_part content Read.content_read Tree.as_row
@@ -421,7 +419,7 @@ module _ (o : ℕ) (S : Schema) (m : List ℕ) (b : Budget) where
 
   object-text : (child : Read.Child) (ob : Object) (at start n : ℕ)
       → Field.text_of m (Field.object_span ob start n) ≡ Tree.as_blob (Read.content_read child o S m ob at start n)
-  unfolding Field.text_of Field.object_span Field.span_at Field.no_span Read.content_read Tree.as_blob
+  unfolding Field.text_of Field.object_span Read.content_read Tree.as_blob
   object-text child O.Text at start n = refl
   object-text child O.Bytes at start n = refl
   object-text child (O.List i) at start n = refl
@@ -438,7 +436,7 @@ module _ (o : ℕ) (S : Schema) (m : List ℕ) (b : Budget) where
   shows_entry (within ob at start n d s t e fits) = object_entry_lem (Read.read d o S m) ob at start n fits
 
   pub shows-text : {f : Found} {p : E.Part} → Shows o S m b f p → Field.text_of m (Field.found_span f) ≡ E.text_of p
-  unfolding Field.found_span Field.no_span Field.text_of E.text_of
+  unfolding Field.found_span Field.text_of E.text_of
   shows-text (no-part at) = refl
   shows-text no_value = refl
   shows-text (unknown-number x) = refl
@@ -465,7 +463,7 @@ module _ (o : ℕ) (S : Schema) (m : List ℕ) (b : Budget) where
   shows-refusal (within ob at start n d s t e fits) r q = cc
 
 -- ---- from the root
-pub found_shows : (o : ℕ) (S : Schema) → Sound S → (m : List ℕ) (b : Budget) (s : Spent) → walk o S m b ≡ Going s → (path : List ℕ)
+pub found_shows : (o : ℕ) (S : Schema) → Sound S → (m : List ℕ) (b : Budget) (s : Spent) → walk o S m b ≡ Ok s → (path : List ℕ)
     → Shows o S m b (Field.found o S m path) (E.part_along S (E.Part.object (O.Table S.root) (Read.message_read o S m)) path)
 unfolding walk Field.found Read.message_read
 found_shows o S sound m b s e path =

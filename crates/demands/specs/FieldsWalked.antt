@@ -1,6 +1,6 @@
 -- The field's answer from the packed bytes of a schema, where the walk goes on to the end: it is the answer of the path, and
 -- that shows what the tree shows.
-use Rattle.std.specs.Prelude.{◌≡◌, List, true, ℕ, ◌≤◌, length}
+use Rattle.std.specs.Prelude.{◌≡◌, List, true, ℕ, ◌≤◌, length, Ok}
 use Rattle.std.proofs.Common.{sym, ◌∙◌}
 use Rattle.std.proofs.Math.Path.{ap}
 use borrow.Author.Tests.{le-leb}
@@ -18,10 +18,9 @@ use Rattle.coding.specs.declared.Budget.{Budget}
 use Rattle.coding.specs.declared.Spent.{Spent}
 use Rattle.coding.specs.declared.Refusal.{Refusal}
 use Rattle.coding.specs.declared.Found.{Found}
-use Rattle.coding.specs.declared.Walked.TheVariants.{Going}
 
 module _ (o : ℕ) (b m : List ℕ) (budget : Budget) (path : List ℕ) (sound : Sound (parse b)) (schema : lawful o b ≡ true)
-    (size : size_ok o m ≡ true) (start : start_ok m ≡ true) (spent : Spent) (walks : walk o (parse b) m budget ≡ Going spent)
+    (size : size_ok o m ≡ true) (start : start_ok m ≡ true) (spent : Spent) (walks : walk o (parse b) m budget ≡ Ok spent)
     (short : length path ≤ 96) where
   path-found : field_found o b m path ≡ found o (parse b) m path
   unfolding field_found

@@ -1,5 +1,5 @@
 -- A walk that goes on has gone on at every member and element of what it judged; and what is read at each of them.
-use Rattle.std.specs.Prelude.{◌≡◌, length, get_or, take}
+use Rattle.std.specs.Prelude.{◌≡◌, length, get_or, take, Ok, Err}
 use Rattle.std.proofs.Math.Path.{refl, subst, ap}
 use Rattle.std.proofs.Common.{sym, ◌∙◌, arith, add_assoc}
 use mathlib.Core.List.{List, [], ◌∷◌}
@@ -9,7 +9,7 @@ use Rattle.coding.specs.Schema.{Schema, plain_bool}
 use Rattle.coding.specs.Structs.{flat_width, total, struct_size}
 use Rattle.coding.specs.Layout.{after_member, after_members}
 use Rattle.coding.specs.Step.{field_step, member_step, element_step}
-use Rattle.coding.specs.Walk.{Child, refuse, refuse_part, and_then, follow, members, elements, directs}
+use Rattle.coding.specs.Walk.{Child, refuse, refuse_part, and_then, follow, members, elements, directs, Walked}
 use Rattle.coding.specs.Value as Tree
 use Rattle.coding.specs.Read as Read
 use Rattle.laws.specs.DirectPlaces.{element-first, element_next}
@@ -26,24 +26,22 @@ use Rattle.coding.specs.declared.Place.TheVariants.{InPlace}
 use Rattle.coding.specs.declared.Step.{Step}
 use Rattle.coding.specs.declared.Spent.{Spent}
 use Rattle.coding.specs.declared.Refusal.{Refusal}
-use Rattle.coding.specs.declared.Walked.{Walked}
-use Rattle.coding.specs.declared.Walked.TheVariants.{Going, Refused}
 
 -- the walk goes on from a step, at some point
 pub record GoesOn (child : Child) (holder part : ℕ) (step : Step) : Type 0 where
   pub from : Spent
   pub to : Spent
-  pub goes : follow child holder part step from ≡ Going to
+  pub goes : follow child holder part step from ≡ Ok to
 
 -- ---- what goes on is not refused
-pub refused_going : (r : Refusal) (s t : Spent) → Refused r s ≡ Going t → ⊥
+pub refused_going : (r : Refusal) (s t : Spent) → ◌≡◌ {A = Walked} (Err (r, s)) (Ok t) → ⊥
 refused_going r s t e = let z : ◌≡◌ {A = ℕ} 0 1 = cc in omega arith
 
-pub refuse_going : (n at : ℕ) (s t : Spent) → refuse n at s ≡ Going t → ⊥
+pub refuse_going : (n at : ℕ) (s t : Spent) → refuse n at s ≡ Ok t → ⊥
 unfolding refuse
 refuse_going n at s t e = refused_going _ _ _ e
 
-pub refuse-part_going : (n holder j : ℕ) (s t : Spent) → refuse_part n holder j s ≡ Going t → ⊥
+pub refuse-part_going : (n holder j : ℕ) (s t : Spent) → refuse_part n holder j s ≡ Ok t → ⊥
 unfolding refuse_part
 refuse-part_going n holder j s t e = refused_going _ _ _ e
 
@@ -53,17 +51,17 @@ shift i j = omega arith
 -- both parts have gone on
 pub record Both (w : Walked) (next : Spent → Walked) (t : Spent) : Type 0 where
   pub middle : Spent
-  pub first : w ≡ Going middle
-  pub second : next middle ≡ Going t
+  pub first : w ≡ Ok middle
+  pub second : next middle ≡ Ok t
 
-pub both : (w : Walked) (next : Spent → Walked) (t : Spent) → and_then w next ≡ Going t → Both w next t
+pub both : (w : Walked) (next : Spent → Walked) (t : Spent) → and_then w next ≡ Ok t → Both w next t
 unfolding and_then
-both (Going u) next t e = record { middle = u; first = refl; second = e }
-both (Refused r u) next t e = absurd (refused_going _ _ _ e)
+both (Ok u) next t e = record { middle = u; first = refl; second = e }
+both (Err (r, u)) next t e = absurd (refused_going _ _ _ e)
 
 -- ---- the members of a table
 module _ (child : Child) (o : ℕ) (S : Schema) (m : List ℕ) (holder start n : ℕ) where
-  pub members_going : (rs : List Member) (c : Cursor) (i : ℕ) (s t : Spent) → members child o S m holder start n c i rs s ≡ Going t
+  pub members_going : (rs : List Member) (c : Cursor) (i : ℕ) (s t : Spent) → members child o S m holder start n c i rs s ≡ Ok t
       → (j : ℕ) → j < length rs
       → GoesOn child holder (i + j) (member_step o S m start n (after_members o S (take j rs) c) (get_or rs j plain_bool))
   unfolding members after_members
@@ -75,7 +73,7 @@ module _ (child : Child) (o : ℕ) (S : Schema) (m : List ℕ) (holder start n :
       subst (λ (x : ℕ). GoesOn child holder x (member_step o S m start n (after_members o S (take j rs) (after_member o S r c)) (get_or rs j plain_bool))) (shift i j)
       (members_going rs (after_member o S r c) (i + 1) b.middle t b.second j (omega arith))
 
-  pub elements_going : (k : Kind) (count i : ℕ) (s t : Spent) → elements child o S m holder start k count i s ≡ Going t
+  pub elements_going : (k : Kind) (count i : ℕ) (s t : Spent) → elements child o S m holder start k count i s ≡ Ok t
       → (j : ℕ) → j < count → GoesOn child holder (i + j) (element_step o S m k start (i + j))
   unfolding elements
   elements_going k zero i s t e j l = absurd (omega arith)
@@ -90,9 +88,9 @@ module _ (child : Child) (o : ℕ) (S : Schema) (m : List ℕ) (holder start n :
 pub record Arrived (child : Child) (ob : Object) (p : Place) : Type 0 where
   pub from : Spent
   pub to : Spent
-  pub goes : child ob p from ≡ Going to
+  pub goes : child ob p from ≡ Ok to
 
-pub directs_going : (child : Child) (t w count at : ℕ) (s u : Spent) → directs child t w count at s ≡ Going u → (j : ℕ) → j < count
+pub directs_going : (child : Child) (t w count at : ℕ) (s u : Spent) → directs child t w count at s ≡ Ok u → (j : ℕ) → j < count
     → Arrived child (O.Table t) (InPlace (at + w * j) w)
 unfolding directs
 directs_going child t w zero at s u e j l = absurd (omega arith)

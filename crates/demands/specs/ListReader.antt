@@ -2,7 +2,7 @@
 -- its list answers from the list alone. A path to an object has at most 31 numbers, since each goes one object deeper, so the
 -- path of an element is never too long.
 -- `o` is the width of an offset in bytes.
-use Rattle.std.specs.Prelude.{◌≡◌, Bool, ◌⊎◌, take, drop, leb, eqb}
+use Rattle.std.specs.Prelude.{◌≡◌, Bool, ◌⊎◌, take, drop, leb, eqb, Result, Ok, Err}
 use Rattle.std.proofs.Math.Path.{refl, sym, ap, subst}
 use Rattle.std.proofs.Common.{◌∙◌, inl, inr, length-drop}
 use mathlib.Core.List.{List, [], ◌∷◌, ◌++◌}
@@ -33,8 +33,7 @@ use Rattle.coding.specs.declared.Place.{Place}
 use Rattle.coding.specs.declared.Place.TheVariants.{ByOffset, InPlace}
 use Rattle.coding.specs.declared.Step.{Step}
 use Rattle.coding.specs.declared.Step.TheVariants as St
-use Rattle.coding.specs.declared.Opened.{Opened}
-use Rattle.coding.specs.declared.Opened.TheVariants as Op
+use Rattle.coding.specs.declared.Content.{Content}
 use Rattle.coding.specs.declared.Refusal.{Refusal}
 use Rattle.coding.specs.declared.Found.{Found}
 use Rattle.coding.specs.declared.Found.TheVariants as Fd
@@ -63,10 +62,10 @@ unfolding depth
 no-part d n holder j = omega arith
 
 module _ (o : ℕ) (S : Schema) (m : List ℕ) where
-  opened_depth : (d : ℕ) (ob : Object) (at : ℕ) (w : Opened) → depth (Field.opened ob at d w) ≤ suc d
+  opened_depth : (d : ℕ) (ob : Object) (at : ℕ) (w : Result Content ℕ) → depth (Field.opened ob at d w) ≤ suc d
   unfolding Field.opened depth
-  opened_depth d ob at (Op.Refused n) = omega arith
-  opened_depth d ob at (Op.Content start n) = omega arith
+  opened_depth d ob at (Err n) = omega arith
+  opened_depth d ob at (Ok c) = omega arith
 
   arrived_depth : (d : ℕ) (ob : Object) (p : Place) → depth (Field.arrived d o S m ob p) ≤ d
   unfolding Field.arrived

@@ -1,27 +1,24 @@
 -- 02, K6: "In the walk, old and new answers agree in all other parts." The walk before K6 noted no member; here each arrival notes
 -- whatever it likes as the member of the refusal that it hands back, and no other part of any answer changes.
-use Rattle.std.specs.Prelude.{ℕ, zero, suc, ◌+◌, ◌≡◌, refl, List, Bool, true, false, ltb, leb}
+use Rattle.std.specs.Prelude.{ℕ, zero, suc, ◌+◌, ◌≡◌, refl, List, Bool, true, false, ltb, leb, Result, Ok, Err}
 use Rattle.coding.specs.Lists.{pick}
 use Rattle.coding.specs.Bytes.{deepest}
 use Rattle.coding.specs.Schema.{Schema}
-use Rattle.coding.specs.Walk.{placed, content_length, fit_object, bytes_tested, refuse, and_then, Child, with_content, admit, arrive, too_deep, one_more, counted, visit, root_place, nothing, walk, verdict_of}
+use Rattle.coding.specs.Walk.{placed, content_length, fit_object, bytes_tested, refuse, and_then, Child, with_content, admit, arrive, too_deep, one_more, counted, visit, root_place, nothing, walk, verdict_of, Walked}
 use Rattle.coding.specs.declared.Object.{Object}
 use Rattle.coding.specs.declared.Object.TheVariants as O
 use Rattle.coding.specs.declared.Place.{Place}
-use Rattle.coding.specs.declared.Opened.{Opened}
-use Rattle.coding.specs.declared.Opened.TheVariants as Op
+use Rattle.coding.specs.declared.Content.{Content}
 use Rattle.coding.specs.declared.Budget.{Budget}
 use Rattle.coding.specs.declared.Spent.{Spent}
 use Rattle.coding.specs.declared.Refusal.{Refusal}
-use Rattle.coding.specs.declared.Walked.{Walked}
-use Rattle.coding.specs.declared.Walked.TheVariants.{Going, Refused}
 use Rattle.coding.specs.declared.Verdict.{Verdict}
 use Rattle.demands.specs.TwoWalks.{Beside, enter_beside}
 
 -- the answer of an arrival that notes f of its refusal as the member
 unfoldable pub noting : (Refusal → ℕ) → Walked → Walked
-noting f (Going s) = Going s
-noting f (Refused r s) = Refused (record { number = r.number; place = r.place; member = f r }) s
+noting f (Ok s) = Ok s
+noting f (Err (r, s)) = Err (record { number = r.number; place = r.place; member = f r }, s)
 
 -- the walk, each arrival of which notes what f says: `λ r. no_member` is the walk before K6
 unfoldable pub visit_noting : (Refusal → ℕ) → ℕ → ℕ → Schema → List ℕ → Budget → Child
@@ -33,12 +30,12 @@ walk_noting f o S m b = visit_noting f deepest o S m b (O.Table S.root) (root_pl
 
 -- two answers of the walk agree in all parts but the member
 pub data Alike : Walked → Walked → Type 0 where
-  goes : {s : Spent} → Alike (Going s) (Going s)
-  stops : {r r' : Refusal} {s : Spent} → r.number ≡ r'.number → r.place ≡ r'.place → Alike (Refused r s) (Refused r' s)
+  goes : {s : Spent} → Alike (Ok s) (Ok s)
+  stops : {r r' : Refusal} {s : Spent} → r.number ≡ r'.number → r.place ≡ r'.place → Alike (Err (r, s)) (Err (r', s))
 
 same : (w : Walked) → Alike w w
-same (Going s) = goes
-same (Refused r s) = stops refl refl
+same (Ok s) = goes
+same (Err (r, s)) = stops refl refl
 
 noting_alike : (f : Refusal → ℕ) {w w' : Walked} → Alike w w' → Alike (noting f w) w'
 unfolding noting
@@ -64,14 +61,14 @@ alike_beside = record { goes = λ s. goes; stops = λ r s. stops refl refl; then
 
 module _ (child child' : Child) (H : (ob : Object) (p : Place) (s : Spent) → Alike (child ob p s) (child' ob p s)) (o : ℕ) (S : Schema)
     (m : List ℕ) where
-  admit_alike : (b : Budget) (ob : Object) (holder : ℕ) (w : Opened) (s : Spent)
+  admit_alike : (b : Budget) (ob : Object) (holder : ℕ) (w : Result Content ℕ) (s : Spent)
       → Alike (admit child o S m b ob holder w s) (admit child' o S m b ob holder w s)
   unfolding admit
-  admit_alike b ob holder (Op.Refused n) s = same (refuse n holder s)
-  admit_alike b ob holder (Op.Content start n) s =
-      let c = content_length o S ob n in
+  admit_alike b ob holder (Err n) s = same (refuse n holder s)
+  admit_alike b ob holder (Ok x) s =
+      let c = content_length o S ob x.length in
       pick_alike (leb (s.content + c) b.content)
-      (enter_beside AlikeFrom alike_beside child child' H o S m ob holder (bytes_tested m ob (Op.Content start n)) (with_content c s))
+      (enter_beside AlikeFrom alike_beside child child' H o S m ob holder (bytes_tested m ob (Ok x)) (with_content c s))
       (same (refuse 17 holder s))
 
   arrive_alike : (b : Budget) (ob : Object) (p : Place) (s : Spent)

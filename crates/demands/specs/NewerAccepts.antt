@@ -1,6 +1,6 @@
 -- A newer schema's walk of a message that is plain under an older schema is the older's, step for step, with every budget.
 use Prim.Native.Nat.{ℕ, zero, suc, ◌+◌}
-use Rattle.std.specs.Prelude.{List, Bool, ◌&&◌, ◌≡◌, length, ltb, eqb}
+use Rattle.std.specs.Prelude.{List, Bool, ◌&&◌, ◌≡◌, length, ltb, eqb, Result, Ok, Err}
 use Rattle.std.proofs.Math.Bool.{true, false}
 use Rattle.std.proofs.Math.Path.{refl, ap, subst}
 use Rattle.std.proofs.Math.Dec.{leb}
@@ -8,7 +8,7 @@ use Rattle.coding.specs.Lists.{pick}
 use Rattle.coding.specs.Bytes.{le, deepest}
 use Rattle.coding.specs.Schema.{Schema, table_of}
 use Rattle.coding.specs.Layout.{begin, after_member}
-use Rattle.coding.specs.Walk.{placed, magic, header_size, element_id, element_size, most_elements, start_size, content_size, content_length, end_ok, text_ok, fit_content, direct_header, header_tested, stands_in_place, fit_object, bytes_tested, refuse, and_then, Child, follow_choice, follow, members, elements, directs, content, enter, with_content, admit, arrive, one_more, counted, visit, root_place, nothing, walk}
+use Rattle.coding.specs.Walk.{placed, magic, header_size, element_id, element_size, most_elements, start_size, content_size, content_length, end_ok, text_ok, fit_content, direct_header, header_tested, stands_in_place, fit_object, bytes_tested, refuse, and_then, Child, follow_choice, follow, members, elements, directs, content, enter, with_content, admit, arrive, one_more, counted, visit, root_place, nothing, walk, content_at, Walked}
 use Rattle.coding.specs.Append.{Extends, rest, more, KindAppends, MemberAppends, SchemaAppends}
 use Rattle.coding.specs.declared.Object.{Object}
 use Rattle.coding.specs.declared.Object.TheVariants as Ob
@@ -18,12 +18,9 @@ use Rattle.coding.specs.declared.Cursor.{Cursor}
 use Rattle.coding.specs.declared.Place.{Place}
 use Rattle.coding.specs.declared.Place.TheVariants.{ByOffset, InPlace}
 use Rattle.coding.specs.declared.Step.{Step}
-use Rattle.coding.specs.declared.Opened.{Opened}
-use Rattle.coding.specs.declared.Opened.TheVariants as Op
+use Rattle.coding.specs.declared.Content.{Content}
 use Rattle.coding.specs.declared.Budget.{Budget}
 use Rattle.coding.specs.declared.Spent.{Spent}
-use Rattle.coding.specs.declared.Walked.{Walked}
-use Rattle.coding.specs.declared.Walked.TheVariants.{Going, Refused}
 use Rattle.laws.specs.Sound.{All, ObjectSound, KindSound, MemberSound, Sound}
 use Rattle.demands.specs.SameLayout.{element-same, table_same, after-member-same, content-length-same}
 use Rattle.demands.specs.SameStep.{SameStep, refused, no_value, value, enum-value, enum_appended, enum-unknown, struct-value, object-value, choice, choice_appended, choice-unknown, member_step-same, element_step-same}
@@ -35,8 +32,8 @@ then_same : {a b : Walked} (next next' : Spent → Walked) → b ≡ a → ((s :
 then_same {a} {b} next next' e f = rw e (by a)
   where
     by : (x : Walked) → and_then x next' ≡ and_then x next
-    by (Going s) = unfold and_then in f s
-    by (Refused r s) = unfold and_then in refl
+    by (Ok s) = unfold and_then in f s
+    by (Err (r, s)) = unfold and_then in refl
 
 module _ (o : ℕ) (O N : Schema) (sound : Sound O) (G : SchemaAppends O N) (m : List ℕ) (P : Objects) (old new : Child)
     (H : (ob : Object) → ObjectSound O ob → (p : Place) → P ob p → (s : Spent) → new ob p s ≡ old ob p s) where
@@ -104,15 +101,15 @@ module _ (o : ℕ) (O N : Schema) (sound : Sound O) (G : SchemaAppends O N) (m :
   content_admits b ob q holder start n h s = by (leb (start + content_size o O m ob holder n) (length m))
     where
       tested : (u v : Bool) (t : Spent)
-          → enter new o N m ob holder (pick u (pick v (Op.Content start n) (Op.Refused 16)) (Op.Refused 10)) t
-          ≡ enter old o O m ob holder (pick u (pick v (Op.Content start n) (Op.Refused 16)) (Op.Refused 10)) t
+          → enter new o N m ob holder (pick u (pick v (Ok (content_at start n)) (Err 16)) (Err 10)) t
+          ≡ enter old o O m ob holder (pick u (pick v (Ok (content_at start n)) (Err 16)) (Err 10)) t
       tested true true t = content-same ob q holder start n h t
       tested true false t = refl
       tested false v t = refl
 
       by : (t : Bool)
-          → admit new o N m b ob holder (pick t (Op.Content start n) (Op.Refused 6)) s
-          ≡ admit old o O m b ob holder (pick t (Op.Content start n) (Op.Refused 6)) s
+          → admit new o N m b ob holder (pick t (Ok (content_at start n)) (Err 6)) s
+          ≡ admit old o O m b ob holder (pick t (Ok (content_at start n)) (Err 6)) s
       by true =
           rw (content-length-same O N sound G o ob q n)
           (ap (λ (w : Walked). pick (leb (s.content + content_length o N ob n) b.content) w (refuse 17 holder s))
@@ -120,7 +117,7 @@ module _ (o : ℕ) (O N : Schema) (sound : Sound O) (G : SchemaAppends O N) (m :
       by false = refl
 
   -- what a direct list's header says more
-  header_admits : (b : Budget) (ob : Object) (holder : ℕ) (fit : Opened) (s : Spent)
+  header_admits : (b : Budget) (ob : Object) (holder : ℕ) (fit : Result Content ℕ) (s : Spent)
       → admit new o N m b ob holder fit s ≡ admit old o O m b ob holder fit s
       → admit new o N m b ob holder (header_tested o O m ob holder fit) s ≡ admit old o O m b ob holder (header_tested o O m ob holder fit) s
   unfolding header_tested direct_header
@@ -132,8 +129,8 @@ module _ (o : ℕ) (O N : Schema) (sound : Sound O) (G : SchemaAppends O N) (m :
       by (eqb (element_id o m holder) (table_of O t).id) (leb (le m (holder + 4) o) most_elements)
     where
       by : (u v : Bool)
-          → admit new o N m b (Ob.DirectList t) holder (pick u (pick v fit (Op.Refused 6)) (Op.Refused 7)) s
-          ≡ admit old o O m b (Ob.DirectList t) holder (pick u (pick v fit (Op.Refused 6)) (Op.Refused 7)) s
+          → admit new o N m b (Ob.DirectList t) holder (pick u (pick v fit (Err 6)) (Err 7)) s
+          ≡ admit old o O m b (Ob.DirectList t) holder (pick u (pick v fit (Err 6)) (Err 7)) s
       by true true = h
       by true false = unfold admit in refl
       by false v = unfold admit in refl
@@ -143,12 +140,12 @@ module _ (o : ℕ) (O N : Schema) (sound : Sound O) (G : SchemaAppends O N) (m :
   unfolding fit_object place_plain placed
   place_admits b ob q (ByOffset x) h s = by (leb (start_size o) x && leb (x + header_size o ob) (length m)) (eqb (le m x 4) (magic O ob))
     where
-      opened : Opened
+      opened : Result Content ℕ
       opened = header_tested o O m ob x (fit_content o O m ob x (x + header_size o ob) (le m (x + 4) o))
 
       by : (t u : Bool)
-          → admit new o N m b ob x (pick t (pick u opened (Op.Refused 7)) (Op.Refused 6)) s
-          ≡ admit old o O m b ob x (pick t (pick u opened (Op.Refused 7)) (Op.Refused 6)) s
+          → admit new o N m b ob x (pick t (pick u opened (Err 7)) (Err 6)) s
+          ≡ admit old o O m b ob x (pick t (pick u opened (Err 7)) (Err 6)) s
       by true true =
           header_admits b ob x (fit_content o O m ob x (x + header_size o ob) (le m (x + 4) o)) s
           (content_admits b ob q x (x + header_size o ob) (le m (x + 4) o) h s)
@@ -157,8 +154,8 @@ module _ (o : ℕ) (O N : Schema) (sound : Sound O) (G : SchemaAppends O N) (m :
   place_admits b ob q (InPlace a n) h s = by (stands_in_place ob)
     where
       by : (t : Bool)
-          → admit new o N m b ob a (pick t (fit_content o O m ob a a n) (Op.Refused 6)) s
-          ≡ admit old o O m b ob a (pick t (fit_content o O m ob a a n) (Op.Refused 6)) s
+          → admit new o N m b ob a (pick t (fit_content o O m ob a a n) (Err 6)) s
+          ≡ admit old o O m b ob a (pick t (fit_content o O m ob a a n) (Err 6)) s
       by true = content_admits b ob q a a n h s
       by false = unfold admit in refl
 

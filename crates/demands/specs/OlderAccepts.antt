@@ -2,7 +2,7 @@
 -- newer's.
 use Prim.Native.Nat.{ℕ, zero, suc, ◌+◌}
 use Rattle.std.proofs.Common.{arith}
-use Rattle.std.specs.Prelude.{List, Bool, ◌≡◌, refl, ltb, eqb}
+use Rattle.std.specs.Prelude.{List, Bool, ◌≡◌, refl, ltb, eqb, Result, Ok, Err}
 use Rattle.std.proofs.Math.Bool.{true, false}
 use Rattle.std.proofs.Math.Path.{subst}
 use Rattle.std.proofs.Math.Dec.{leb}
@@ -11,7 +11,7 @@ use Rattle.coding.specs.Lists.{pick}
 use Rattle.coding.specs.Bytes.{le, deepest}
 use Rattle.coding.specs.Schema.{Schema}
 use Rattle.coding.specs.Layout.{begin, after_member}
-use Rattle.coding.specs.Walk.{placed, header_size, element_size, content_length, fit_content, fit_object, bytes_tested, refuse, and_then, Child, refuse_part, follow_choice, follow, members, elements, directs, content, enter, with_content, admit, arrive, too_deep, one_more, counted, visit, root_place, nothing, walk}
+use Rattle.coding.specs.Walk.{placed, header_size, element_size, content_length, fit_content, fit_object, bytes_tested, refuse, and_then, Child, refuse_part, follow_choice, follow, members, elements, directs, content, enter, with_content, admit, arrive, too_deep, one_more, counted, visit, root_place, nothing, walk, Walked}
 use Rattle.coding.specs.Append.{Extends, rest, more, KindAppends, MemberAppends, SchemaAppends}
 use Rattle.coding.specs.declared.Object.{Object}
 use Rattle.coding.specs.declared.Object.TheVariants as Ob
@@ -21,13 +21,10 @@ use Rattle.coding.specs.declared.Cursor.{Cursor}
 use Rattle.coding.specs.declared.Place.{Place}
 use Rattle.coding.specs.declared.Place.TheVariants.{ByOffset, InPlace}
 use Rattle.coding.specs.declared.Step.{Step}
-use Rattle.coding.specs.declared.Opened.{Opened}
-use Rattle.coding.specs.declared.Opened.TheVariants as Op
+use Rattle.coding.specs.declared.Content.{Content}
 use Rattle.coding.specs.declared.Budget.{Budget}
 use Rattle.coding.specs.declared.Spent.{Spent}
 use Rattle.coding.specs.declared.Refusal.{Refusal}
-use Rattle.coding.specs.declared.Walked.{Walked}
-use Rattle.coding.specs.declared.Walked.TheVariants.{Going, Refused}
 use Rattle.laws.specs.Sound.{All, ObjectSound, KindSound, MemberSound, Sound}
 use Rattle.demands.specs.Spending.{NoMore, no_more_refl, no_more_trans, one_more-within, with-content-within}
 use Rattle.demands.specs.TwoWalks.{choice_beside, members_beside}
@@ -37,8 +34,8 @@ use Rattle.demands.specs.SameStep.{SameStep, refused, no_value, value, enum-valu
 
 -- if the second walk goes on, the first does, and has spent no more of either
 pub data Within : Walked → Walked → Type 0 where
-  stopped : {a : Walked} {r : Refusal} {s : Spent} → Within a (Refused r s)
-  going : {s s' : Spent} → NoMore s s' → Within (Going s) (Going s')
+  stopped : {a : Walked} {r : Refusal} {s : Spent} → Within a (Err (r, s))
+  going : {s s' : Spent} → NoMore s s' → Within (Ok s) (Ok s')
 
 pick-within : (t : Bool) {a a' b b' : Walked} → Within a a' → Within b b' → Within (pick t a b) (pick t a' b')
 pick-within true x y = x
@@ -50,15 +47,15 @@ unfolding and_then
 then-within stopped f = stopped
 then-within (going {s} {s'} h) f = f s s' h
 
-from-within : {s t : Spent} {a : Walked} → NoMore s t → Within (Going t) a → Within (Going s) a
+from-within : {s t : Spent} {a : Walked} → NoMore s t → Within (Ok t) a → Within (Ok s) a
 from-within h stopped = stopped
 from-within h (going l) = going (no_more_trans h l)
 
 -- what the newer's walk leads to alone: what is spent never falls
-up-within : {s : Spent} (w : Walked) → NoMore s (spent_by w) → Within (Going s) w
+up-within : {s : Spent} (w : Walked) → NoMore s (spent_by w) → Within (Ok s) w
 unfolding spent_by
-up-within (Going t) h = going h
-up-within (Refused r t) h = stopped
+up-within (Ok t) h = going h
+up-within (Err (r, t)) h = stopped
 
 refuse-within : {a : Walked} (n at : ℕ) (s : Spent) → Within a (refuse n at s)
 unfolding refuse
@@ -142,34 +139,34 @@ module _ (o : ℕ) (O N : Schema) (sound : Sound O) (G : SchemaAppends O N) (m :
         members-within (table_same O N sound G i q).members (sound.tables i).members holder start n begin 0 s s' h
     content-within (Ob.DirectList t) q holder start n s s' h = directs-within t q.table (element_size o m holder) n start s s' h
 
-    enter-within : (ob : Object) → ObjectSound O ob → (holder : ℕ) (p : Opened) (s s' : Spent) → NoMore s s'
+    enter-within : (ob : Object) → ObjectSound O ob → (holder : ℕ) (p : Result Content ℕ) (s s' : Spent) → NoMore s s'
         → Within (enter old o O m ob holder p s) (enter new o N m ob holder p s')
     unfolding enter
-    enter-within ob q holder (Op.Refused n) s s' h = refuse-within n holder s'
-    enter-within ob q holder (Op.Content start n) s s' h = content-within ob q holder start n s s' h
+    enter-within ob q holder (Err n) s s' h = refuse-within n holder s'
+    enter-within ob q holder (Ok c) s s' h = content-within ob q holder c.start c.length s s' h
 
     -- the content allowance's test: if the newer passes it, so does the older
-    admit-within : (b : Budget) (ob : Object) → ObjectSound O ob → (holder : ℕ) (p : Opened) (s s' : Spent) → NoMore s s'
+    admit-within : (b : Budget) (ob : Object) → ObjectSound O ob → (holder : ℕ) (p : Result Content ℕ) (s s' : Spent) → NoMore s s'
         → Within (admit old o O m b ob holder p s) (admit new o N m b ob holder p s')
     unfolding admit
-    admit-within b ob q holder (Op.Refused n) s s' h = refuse-within n holder s'
-    admit-within b ob q holder (Op.Content start n) s s' h =
-        rw (content-length-same O N sound G o ob q n) (by (leb (s'.content + content_length o N ob n) b.content) refl)
+    admit-within b ob q holder (Err n) s s' h = refuse-within n holder s'
+    admit-within b ob q holder (Ok c) s s' h =
+        rw (content-length-same O N sound G o ob q c.length) (by (leb (s'.content + content_length o N ob c.length) b.content) refl)
       where
-        by : (t : Bool) → leb (s'.content + content_length o N ob n) b.content ≡ t
+        by : (t : Bool) → leb (s'.content + content_length o N ob c.length) b.content ≡ t
             → Within
-            (pick (leb (s.content + content_length o N ob n) b.content)
-            (enter old o O m ob holder (bytes_tested m ob (Op.Content start n)) (with_content (content_length o N ob n) s))
+            (pick (leb (s.content + content_length o N ob c.length) b.content)
+            (enter old o O m ob holder (bytes_tested m ob (Ok c)) (with_content (content_length o N ob c.length) s))
             (refuse 17 holder s))
             (pick t
-            (enter new o N m ob holder (bytes_tested m ob (Op.Content start n)) (with_content (content_length o N ob n) s'))
+            (enter new o N m ob holder (bytes_tested m ob (Ok c)) (with_content (content_length o N ob c.length) s'))
             (refuse 17 holder s'))
         by true e =
-            let l = leb-true (s'.content + content_length o N ob n) b.content e in
-            rw (le-leb (s.content + content_length o N ob n) b.content (omega (arith, h.content)))
-            (enter-within ob q holder (bytes_tested m ob (Op.Content start n))
-            (with_content (content_length o N ob n) s) (with_content (content_length o N ob n) s')
-            (with-content-within (content_length o N ob n) h))
+            let l = leb-true (s'.content + content_length o N ob c.length) b.content e in
+            rw (le-leb (s.content + content_length o N ob c.length) b.content (omega (arith, h.content)))
+            (enter-within ob q holder (bytes_tested m ob (Ok c))
+            (with_content (content_length o N ob c.length) s) (with_content (content_length o N ob c.length) s')
+            (with-content-within (content_length o N ob c.length) h))
         by false e = refuse-within 17 holder s'
 
     arrive-within : (b : Budget) (ob : Object) → ObjectSound O ob → (p : Place) (s s' : Spent) → NoMore s s'
@@ -209,9 +206,9 @@ module _ (o : ℕ) (O N : Schema) (sound : Sound O) (G : SchemaAppends O N) (m :
       (visit-within deepest (Ob.Table O.root) sound.root (root_place o m) nothing nothing (no_more_refl nothing))
 
   -- whatever the newer accepts, the older accepts, and has spent no more of either
-  pub older_accepts : (s : Spent) → walk o N m b ≡ Going s → (t : Spent) × (walk o O m b ≡ Going t) × NoMore t s
+  pub older_accepts : (s : Spent) → walk o N m b ≡ Ok s → (t : Spent) × (walk o O m b ≡ Ok t) × NoMore t s
   older_accepts s e = accepts walk-within s e
     where
-      accepts : {x y : Walked} → Within x y → (s : Spent) → y ≡ Going s → (t : Spent) × (x ≡ Going t) × NoMore t s
+      accepts : {x y : Walked} → Within x y → (s : Spent) → y ≡ Ok s → (t : Spent) × (x ≡ Ok t) × NoMore t s
       accepts (stopped {r} {s = u}) s e = let z : ◌≡◌ {A = ℕ} 0 1 = cc in absurd (omega arith)
       accepts (going {s = t} {s' = u} l) s e = (t, refl, subst (λ (v : Spent). NoMore t v) (let z : u ≡ s = cc in z) l)

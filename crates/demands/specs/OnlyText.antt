@@ -62,7 +62,7 @@ accepted-sheet-texts o b m schema_bytes message_bytes budget accepted =
 
 object_characters : (m : List ℕ) (ob : Object) (at start n d : ℕ) → text_ok m ob start n ≡ true → Field.record_kind ob ≡ 13
     → Characters (Field.text_of m (Field.found_span (Fd.Object ob at start n d)))
-unfolding text_ok Field.record_kind Field.text_of Field.found_span Field.object_span Field.span_at
+unfolding text_ok Field.record_kind Field.text_of Field.found_span Field.object_span
 object_characters m O.Text at start n d h k = (text-exactly (take n (drop start m))).0 h
 object_characters m O.Bytes at start n d h k = absurd (omega arith)
 object_characters m (O.List i) at start n d h k = absurd (omega arith)

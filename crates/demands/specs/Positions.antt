@@ -1,6 +1,6 @@
 -- 02, K10: "Each row equals what the old rule gives, and with that table every public answer is equal to the old one; ... Any other table
 -- handed in gets refusal 1, tried with the schema."
-use Rattle.std.specs.Prelude.{◌≡◌, refl, Bool, true, false, List, [], ◌∷◌, ◌++◌, ℕ, suc, ◌+◌, ◌*◌, ◌<◌, ◌≤◌, length, get_or, take, drop, leb}
+use Rattle.std.specs.Prelude.{◌≡◌, refl, Bool, true, false, List, [], ◌∷◌, ◌++◌, ℕ, suc, ◌+◌, ◌*◌, ◌<◌, ◌≤◌, length, get_or, take, drop, leb, None}
 use Rattle.std.proofs.Common.{sym, ◌∙◌, arith, length-append}
 use Rattle.std.proofs.Math.Path.{ap, subst}
 use Rattle.std.proofs.Math.Seq.{take-append_seam}
@@ -148,7 +148,7 @@ pub record SchemaRefused (o : ℕ) (b : List ℕ) : Type 0 where
   pub read_answer : (m : List ℕ) (budget : Budget) (out : List ℕ) → M.read_answer o b m budget out ≡ record { verdict = W.early 1; length = 0 }
   pub read_out : (m : List ℕ) (budget : Budget) (out : List ℕ) → M.read_out o b m budget out ≡ out
   pub field : (m path : List ℕ) → F.field o b m path ≡ A.Refused (W.refusal 1 0)
-  pub field_span : (m path : List ℕ) → F.field_span o b m path ≡ F.no_span
+  pub field_span : (m path : List ℕ) → F.field_span o b m path ≡ None
   pub field_text : (m path : List ℕ) → F.field_text o b m path ≡ []
   pub reader_start : (m path : List ℕ) → F.reader_start o b m path ≡ Fd.Refused (W.refusal 1 0)
   pub reader_gives : (m path : List ℕ) (j : ℕ) → F.reader_gives o b m path j ≡ A.Refused (W.refusal 1 0)
@@ -178,7 +178,7 @@ module _ (o : ℕ) (b : List ℕ) (e : L.lawful o b ≡ false) where
   start_refused m path = rw (found_refused m path)
 
   pub unlawful_refused : SchemaRefused o b
-  unfolding F.field F.field_span F.found_span F.field_text F.text_of F.no_span F.answer_of F.reader_gives F.list_gives F.part_of F.reader_count F.list_count F.reader_over
+  unfolding F.field F.field_span F.found_span F.field_text F.text_of F.answer_of F.reader_gives F.list_gives F.part_of F.reader_count F.list_count F.reader_over
   unlawful_refused =
       record {
         verdict = verdict_refused;

@@ -2,22 +2,19 @@
 -- refused by 4 or by 17, and the second goes further than the first budget allows.
 use Prim.Native.Nat.{ℕ, zero, suc, ◌<◌, ◌+◌}
 use Rattle.std.proofs.Common.{le_trans, arith, ltb-true, ltb-false, leb-true, leb-false}
-use Rattle.std.specs.Prelude.{List, Bool, true, false, ◌≡◌, ltb, leb}
+use Rattle.std.specs.Prelude.{List, Bool, true, false, ◌≡◌, ltb, leb, Result, Ok, Err}
 use Rattle.std.proofs.Math.Path.{refl}
 use Rattle.coding.specs.Lists.{pick}
 use Rattle.coding.specs.Bytes.{deepest}
 use Rattle.coding.specs.Schema.{Schema}
-use Rattle.coding.specs.Walk.{placed, content_length, fit_object, bytes_tested, refuse, and_then, Child, enter, with_content, admit, arrive, too_deep, one_more, counted, visit, root_place, nothing, walk}
+use Rattle.coding.specs.Walk.{placed, content_length, fit_object, bytes_tested, refuse, and_then, Child, enter, with_content, admit, arrive, too_deep, one_more, counted, visit, root_place, nothing, walk, Walked}
 use Rattle.coding.specs.declared.Object.{Object}
 use Rattle.coding.specs.declared.Object.TheVariants as Ob
 use Rattle.coding.specs.declared.Place.{Place}
-use Rattle.coding.specs.declared.Opened.{Opened}
-use Rattle.coding.specs.declared.Opened.TheVariants as Op
+use Rattle.coding.specs.declared.Content.{Content}
 use Rattle.coding.specs.declared.Budget.{Budget}
 use Rattle.coding.specs.declared.Spent.{Spent}
 use Rattle.coding.specs.declared.Refusal.{Refusal}
-use Rattle.coding.specs.declared.Walked.{Walked}
-use Rattle.coding.specs.declared.Walked.TheVariants.{Going, Refused}
 use Rattle.demands.specs.Spending.{NoMore, allowed, no_more_refl, no_more_trans, one_more_up, with-content_up}
 use Rattle.demands.specs.TwoWalks.{Beside, enter_beside}
 use Rattle.demands.specs.SpentGrows.{spent_by}
@@ -26,9 +23,9 @@ use Rattle.demands.specs.SpentGrows.{spent_by}
 pub data Raised (b : Budget) : Walked → Walked → Type 0 where
   unchanged : {w : Walked} → Raised b w w
   more_visits : {r : Refusal} {s : Spent} {w : Walked} → r.number ≡ 4 → NoMore s (spent_by w) → b.visits < (spent_by w).visits
-      → Raised b (Refused r s) w
+      → Raised b (Err (r, s)) w
   more-content : {r : Refusal} {s : Spent} {w : Walked} → r.number ≡ 17 → NoMore s (spent_by w) → b.content < (spent_by w).content
-      → Raised b (Refused r s) w
+      → Raised b (Err (r, s)) w
 
 -- the same of a walk from s on
 pub record RaisedFrom (b : Budget) (s : Spent) (w w' : Walked) : Type 0 where
@@ -39,8 +36,8 @@ pub record RaisedFrom (b : Budget) (s : Spent) (w w' : Walked) : Type 0 where
 then_up : (w : Walked) (next : Spent → Walked) → ((t : Spent) → NoMore t (spent_by (next t)))
     → NoMore (spent_by w) (spent_by (and_then w next))
 unfolding and_then spent_by
-then_up (Going t) next f = f t
-then_up (Refused r t) next f = no_more_refl t
+then_up (Ok t) next f = f t
+then_up (Err (r, t)) next f = no_more_refl t
 
 then_raised : (b : Budget) (next next' : Spent → Walked) → ((t : Spent) → RaisedFrom b t (next t) (next' t))
     → {w w' : Walked} → Raised b w w' → Raised b (and_then w next) (and_then w' next')
@@ -48,8 +45,8 @@ unfolding and_then
 then_raised b next next' f (unchanged {w}) = by w
   where
     by : (w : Walked) → Raised b (and_then w next) (and_then w next')
-    by (Going t) = (f t).raised
-    by (Refused r t) = unchanged
+    by (Ok t) = (f t).raised
+    by (Err (r, t)) = unchanged
 then_raised b next next' f (more_visits {w} e l v) =
     let u = then_up w next' (λ t. (f t).up) in more_visits e (no_more_trans l u) (le_trans v u.visits)
 then_raised b next next' f (more-content {w} e l v) =
@@ -72,22 +69,22 @@ raised_beside b =
 module _ (b b' : Budget) (wider : NoMore (allowed b) (allowed b')) where
   -- the content allowance
   admit_raised : (child child' : Child) → ((ob : Object) (p : Place) (s : Spent) → RaisedFrom b s (child ob p s) (child' ob p s))
-      → (o : ℕ) (S : Schema) (m : List ℕ) (ob : Object) (holder : ℕ) (x : Opened) (s : Spent)
+      → (o : ℕ) (S : Schema) (m : List ℕ) (ob : Object) (holder : ℕ) (x : Result Content ℕ) (s : Spent)
       → RaisedFrom b s (admit child o S m b ob holder x s) (admit child' o S m b' ob holder x s)
   unfolding admit refuse with_content spent_by
-  admit_raised child child' H o S m ob holder (Op.Refused n) s = (raised_beside b).stops _ s
-  admit_raised child child' H o S m ob holder (Op.Content start n) s =
+  admit_raised child child' H o S m ob holder (Err n) s = (raised_beside b).stops _ s
+  admit_raised child child' H o S m ob holder (Ok x) s =
       by (leb (s.content + c) b.content) (leb (s.content + c) b'.content) refl refl
     where
       c : ℕ
-      c = content_length o S ob n
+      c = content_length o S ob x.length
 
       inner : Child → Walked
-      inner child = enter child o S m ob holder (bytes_tested m ob (Op.Content start n)) (with_content c s)
+      inner child = enter child o S m ob holder (bytes_tested m ob (Ok x)) (with_content c s)
 
       within : RaisedFrom b (with_content c s) (inner child) (inner child')
       within =
-          enter_beside (RaisedFrom b) (raised_beside b) child child' H o S m ob holder (bytes_tested m ob (Op.Content start n)) (with_content c s)
+          enter_beside (RaisedFrom b) (raised_beside b) child child' H o S m ob holder (bytes_tested m ob (Ok x)) (with_content c s)
 
       by : (t u : Bool) → leb (s.content + c) b.content ≡ t → leb (s.content + c) b'.content ≡ u
           → RaisedFrom b s (pick t (inner child) (refuse 17 holder s)) (pick u (inner child') (refuse 17 holder s))

@@ -1,7 +1,7 @@
 -- Demand 2: a message is accepted exactly when every object reached by its schema is lawful, within depth and budget, which means
 -- both allowances (02, K7); its visits are then the arrivals, "shared objects each time", and its content is that of the arrivals.
 -- What is reached, lawful and counted is said in Arrivals, apart from the walk. `o` is the width of an offset in bytes.
-use Rattle.std.specs.Prelude.{ℕ, ◌<◌, ◌≤◌, List, true, false, ◌≡◌, ◌↔◌}
+use Rattle.std.specs.Prelude.{ℕ, ◌<◌, ◌≤◌, List, true, false, ◌≡◌, ◌↔◌, Ok, Err}
 use Rattle.std.proofs.Common.{arith, sym, ap, ◌∙◌, subst}
 use Rattle.std.proofs.Math.Bool.{Bool}
 use Rattle.std.proofs.Math.Path.{refl}
@@ -10,13 +10,11 @@ use Rattle.coding.specs.Bytes.{deepest}
 use Rattle.coding.specs.Schema.{Schema}
 use Rattle.coding.specs.Packed.{parse}
 use Rattle.coding.specs.Lawful.{lawful}
-use Rattle.coding.specs.Walk.{root_place, nothing, walk, at_zero, verdict_of, early, size_ok, start_ok, verdict}
+use Rattle.coding.specs.Walk.{root_place, nothing, walk, at_zero, verdict_of, early, size_ok, start_ok, verdict, Walked}
 use Rattle.coding.specs.declared.Object.TheVariants as Ob
 use Rattle.coding.specs.declared.Budget.{Budget}
 use Rattle.coding.specs.declared.Spent.{Spent}
 use Rattle.coding.specs.declared.Refusal.{Refusal}
-use Rattle.coding.specs.declared.Walked.{Walked}
-use Rattle.coding.specs.declared.Walked.TheVariants.{Going, Refused}
 use Rattle.coding.specs.declared.Verdict.{Verdict}
 use Rattle.demands.specs.Spending.{allowed, Affords, nothing-plus, nothing_least}
 use Rattle.demands.specs.Arrivals.{root, cost, message_cost, message_arrivals, message_content, Accepted, LawfulMessage}
@@ -31,10 +29,10 @@ module _ (o : ℕ) (S : Schema) (m : List ℕ) (b : Budget) where
       visit_judged deepest o S m b (Ob.Table S.root) (root_place o m) nothing (nothing_least (allowed b))
 
   -- what the walk accepts is accepted, and it has spent what the arrivals cost
-  pub walk_accepts : (s : Spent) → walk o S m b ≡ Going s → Accepted o S m b × (s ≡ message_cost o S m)
+  pub walk_accepts : (s : Spent) → walk o S m b ≡ Ok s → Accepted o S m b × (s ≡ message_cost o S m)
   walk_accepts s e = by (walk o S m b) e walk_judged
     where
-      by : (w : Walked) → w ≡ Going s
+      by : (w : Walked) → w ≡ Ok s
           → Judged b (LawfulDown deepest o S m (Ob.Table S.root) (root_place o m)) (message_cost o S m) nothing w
           → Accepted o S m b × (s ≡ message_cost o S m)
       by w q (stops r t y n) = let z : ◌≡◌ {A = ℕ} 0 1 = cc in absurd (omega arith)
@@ -52,13 +50,13 @@ module _ (o : ℕ) (S : Schema) (m : List ℕ) (b : Budget) where
           )
 
   -- what is accepted the walk accepts, and it has spent what the arrivals cost
-  pub accepted_walks : Accepted o S m b → walk o S m b ≡ Going (message_cost o S m)
+  pub accepted_walks : Accepted o S m b → walk o S m b ≡ Ok (message_cost o S m)
   accepted_walks h = by (walk o S m b) walk_judged
     where
       by : (w : Walked)
           → Judged b (LawfulDown deepest o S m (Ob.Table S.root) (root_place o m)) (message_cost o S m) nothing w
-          → w ≡ Going (message_cost o S m)
-      by w (goes t f g x) = ap (λ (u : Spent). Going u) (f ∙ nothing-plus (message_cost o S m))
+          → w ≡ Ok (message_cost o S m)
+      by w (goes t f g x) = ap (λ (u : Spent). Ok u) (f ∙ nothing-plus (message_cost o S m))
       by w (stops r t z n) =
           absurd (n
           (arrives_down o S m h.depth h.lawful deepest 1 (Ob.Table S.root) (root_place o m) root (omega arith))
@@ -73,14 +71,14 @@ module _ (o : ℕ) (S : Schema) (m : List ℕ) (b : Budget) where
       cost-same deepest d o S m (Ob.Table S.root) (root_place o m) l
       (arrives_down o S m h.depth h.lawful deepest 1 (Ob.Table S.root) (root_place o m) root (omega arith))
 
-  walk_refuses : (r : Refusal) (t : Spent) → walk o S m b ≡ Refused r t → 0 < r.number
+  walk_refuses : (r : Refusal) (t : Spent) → walk o S m b ≡ Err (r, t) → 0 < r.number
   walk_refuses r t e = by (walk o S m b) e walk_judged
     where
-      by : (w : Walked) → w ≡ Refused r t
+      by : (w : Walked) → w ≡ Err (r, t)
           → Judged b (LawfulDown deepest o S m (Ob.Table S.root) (root_place o m)) (message_cost o S m) nothing w
           → 0 < r.number
       by w q (goes u f g x) = let z : ◌≡◌ {A = ℕ} 0 1 = cc in absurd (omega arith)
-      by w q (stops s u z n) = let y : s ≡ r = cc in subst (λ (x : Refusal). 0 < x.number) y z
+      by w q (stops s u z n) = let y : s ≡ r = grind arith in subst (λ (x : Refusal). 0 < x.number) y z
 
 -- ---- the verdict
 -- number 0: the schema is lawful, the message's size and start are, and the walk goes to its end
@@ -89,8 +87,8 @@ pub record Walks (o : ℕ) (b m : List ℕ) (budget : Budget) : Type 0 where
   pub size : size_ok o m ≡ true
   pub start : start_ok m ≡ true
   pub spent : Spent
-  pub walks : walk o (parse b) m budget ≡ Going spent
-  pub answer : verdict o b m budget ≡ verdict_of (Going spent)
+  pub walks : walk o (parse b) m budget ≡ Ok spent
+  pub answer : verdict o b m budget ≡ verdict_of (Ok spent)
 
 module _ (o : ℕ) (b m : List ℕ) (budget : Budget) where
   pub verdict_walks : (verdict o b m budget).number ≡ 0 → Walks o b m budget
@@ -102,16 +100,16 @@ module _ (o : ℕ) (b m : List ℕ) (budget : Budget) where
 
       by : (l z g : Bool) (w : Walked) → lawful o b ≡ l → size_ok o m ≡ z → start_ok m ≡ g → walk o (parse b) m budget ≡ w
           → (judged l z g w).number ≡ 0 → Walks o b m budget
-      by true true true (Going s) e f q x h =
+      by true true true (Ok s) e f q x h =
           record { schema = e; size = f; start = q; spent = s; walks = x; answer = rw (e, f, q, x) }
-      by true true true (Refused r t) e f q x h =
+      by true true true (Err (r, t)) e f q x h =
           let n = walk_refuses o (parse b) m budget r t x in absurd (omega arith)
       by true true false w e f q x h = absurd (omega arith)
       by true false g w e f q x h = absurd (omega arith)
       by false z g w e f q x h = absurd (omega arith)
 
-  pub walks-verdict : lawful o b ≡ true → size_ok o m ≡ true → start_ok m ≡ true → (s : Spent) → walk o (parse b) m budget ≡ Going s
-      → verdict o b m budget ≡ verdict_of (Going s)
+  pub walks-verdict : lawful o b ≡ true → size_ok o m ≡ true → start_ok m ≡ true → (s : Spent) → walk o (parse b) m budget ≡ Ok s
+      → verdict o b m budget ≡ verdict_of (Ok s)
   unfolding verdict
   walks-verdict e f q s x = rw (e, f, q, x)
 

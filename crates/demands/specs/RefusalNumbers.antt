@@ -1,5 +1,5 @@
 -- Every refusal of a step or an arrival has a number above 0, which is the number of acceptance.
-use Rattle.std.specs.Prelude.{ℕ, ◌<◌, ◌+◌, ◌%◌, List, Bool, true, false, ◌&&◌, length, get_or, ltb, leb, eqb}
+use Rattle.std.specs.Prelude.{ℕ, ◌<◌, ◌+◌, ◌%◌, List, Bool, true, false, ◌&&◌, length, get_or, ltb, leb, eqb, Result, Ok, Err}
 use Rattle.std.proofs.Common.{arith}
 use Rattle.coding.specs.Lists.{pick}
 use Rattle.coding.specs.Bytes.{le, bit_at, is_nan}
@@ -7,7 +7,7 @@ use Rattle.coding.specs.Schema.{Schema, cases_of, table_of}
 use Rattle.coding.specs.Structs.{struct_ok}
 use Rattle.coding.specs.Layout.{has_flag, placement_of}
 use Rattle.coding.specs.Step.{enum_step, float_step, object_step, union_step, flat_step, value_step, struct_tested, inside, flagged, placed_step, member_step, element_place, element_step}
-use Rattle.coding.specs.Walk.{magic, header_size, element_id, most_elements, start_size, content_size, end_ok, text_ok, fit_content, direct_header, header_tested, stands_in_place, fit_object, bytes_tested}
+use Rattle.coding.specs.Walk.{magic, header_size, element_id, most_elements, start_size, content_size, end_ok, text_ok, fit_content, direct_header, header_tested, stands_in_place, fit_object, bytes_tested, content_at}
 use Rattle.coding.specs.declared.Flat.{Flat}
 use Rattle.coding.specs.declared.Flat.TheVariants as F
 use Rattle.coding.specs.declared.Object.{Object}
@@ -21,8 +21,7 @@ use Rattle.coding.specs.declared.Place.{Place}
 use Rattle.coding.specs.declared.Place.TheVariants.{ByOffset, InPlace}
 use Rattle.coding.specs.declared.Step.{Step}
 use Rattle.coding.specs.declared.Step.TheVariants as St
-use Rattle.coding.specs.declared.Opened.{Opened}
-use Rattle.coding.specs.declared.Opened.TheVariants as Op
+use Rattle.coding.specs.declared.Content.{Content}
 
 abbrev pub NumberedStep : Step → Type 0
 NumberedStep (St.Refused n) = 0 < n
@@ -33,9 +32,9 @@ NumberedStep (St.Struct i at) = Unit {0}
 NumberedStep (St.Object ob p) = Unit {0}
 NumberedStep (St.Choice c ob p) = Unit {0}
 
-abbrev pub NumberedOpened : Opened → Type 0
-NumberedOpened (Op.Refused n) = 0 < n
-NumberedOpened (Op.Content start n) = Unit {0}
+abbrev pub NumberedOpened : Result Content ℕ → Type 0
+NumberedOpened (Err n) = 0 < n
+NumberedOpened (Ok c) = Unit {0}
 
 -- P of either is P of the one that is picked
 pick_has : {A : Type 0} (P : A → Type 0) (t : Bool) {x y : A} → P x → P y → P (pick t x y)
@@ -105,10 +104,10 @@ element_numbered o S m k start i = tested_numbered S m _ (value_numbered o S m k
 content_numbered : (o : ℕ) (S : Schema) (m : List ℕ) (ob : Object) (at start n : ℕ) → NumberedOpened (fit_content o S m ob at start n)
 unfolding fit_content
 content_numbered o S m ob at start n =
-    pick_has NumberedOpened (leb (start + content_size o S m ob at n) (length m)) {x = Op.Content start n} {y = Op.Refused 6} tt (omega arith)
+    pick_has NumberedOpened (leb (start + content_size o S m ob at n) (length m)) {x = Ok (content_at start n)} {y = Err 6} tt (omega arith)
 
 -- what a direct list's header says more
-header_numbered : (o : ℕ) (S : Schema) (m : List ℕ) (ob : Object) (at : ℕ) (fit : Opened) → NumberedOpened fit
+header_numbered : (o : ℕ) (S : Schema) (m : List ℕ) (ob : Object) (at : ℕ) (fit : Result Content ℕ) → NumberedOpened fit
     → NumberedOpened (header_tested o S m ob at fit)
 unfolding header_tested direct_header
 header_numbered o S m Ob.Text at fit h = h
@@ -117,26 +116,26 @@ header_numbered o S m (Ob.List i) at fit h = h
 header_numbered o S m (Ob.Table i) at fit h = h
 header_numbered o S m (Ob.DirectList t) at fit h =
     pick_has NumberedOpened (eqb (element_id o m at) (table_of S t).id)
-    {x = pick (leb (le m (at + 4) o) most_elements) fit (Op.Refused 6)} {y = Op.Refused 7}
-    (pick_has NumberedOpened (leb (le m (at + 4) o) most_elements) {x = fit} {y = Op.Refused 6} h (omega arith))
+    {x = pick (leb (le m (at + 4) o) most_elements) fit (Err 6)} {y = Err 7}
+    (pick_has NumberedOpened (leb (le m (at + 4) o) most_elements) {x = fit} {y = Err 6} h (omega arith))
     (omega arith)
 
 pub fit_numbered : (o : ℕ) (S : Schema) (m : List ℕ) (ob : Object) (p : Place) → NumberedOpened (fit_object o S m ob p)
 unfolding fit_object
 fit_numbered o S m ob (ByOffset x) =
     let fit = fit_content o S m ob x (x + header_size o ob) (le m (x + 4) o) in
-    pick_has NumberedOpened (leb (start_size o) x && leb (x + header_size o ob) (length m)) {y = Op.Refused 6}
-    (pick_has NumberedOpened (eqb (le m x 4) (magic S ob)) {x = header_tested o S m ob x fit} {y = Op.Refused 7}
+    pick_has NumberedOpened (leb (start_size o) x && leb (x + header_size o ob) (length m)) {y = Err 6}
+    (pick_has NumberedOpened (eqb (le m x 4) (magic S ob)) {x = header_tested o S m ob x fit} {y = Err 7}
     (header_numbered o S m ob x fit (content_numbered o S m ob x (x + header_size o ob) (le m (x + 4) o))) (omega arith))
     (omega arith)
 fit_numbered o S m ob (InPlace a n) =
-    pick_has NumberedOpened (stands_in_place ob) {x = fit_content o S m ob a a n} {y = Op.Refused 6}
+    pick_has NumberedOpened (stands_in_place ob) {x = fit_content o S m ob a a n} {y = Err 6}
     (content_numbered o S m ob a a n) (omega arith)
 
-pub bytes_numbered : (m : List ℕ) (ob : Object) (x : Opened) → NumberedOpened x → NumberedOpened (bytes_tested m ob x)
+pub bytes_numbered : (m : List ℕ) (ob : Object) (x : Result Content ℕ) → NumberedOpened x → NumberedOpened (bytes_tested m ob x)
 unfolding bytes_tested
-bytes_numbered m ob (Op.Refused n) h = h
-bytes_numbered m ob (Op.Content start n) h =
-    pick_has NumberedOpened (end_ok m ob start n) {x = pick (text_ok m ob start n) (Op.Content start n) (Op.Refused 16)} {y = Op.Refused 10}
-    (pick_has NumberedOpened (text_ok m ob start n) {x = Op.Content start n} {y = Op.Refused 16} tt (omega arith))
+bytes_numbered m ob (Err n) h = h
+bytes_numbered m ob (Ok c) h =
+    pick_has NumberedOpened (end_ok m ob c.start c.length) {x = pick (text_ok m ob c.start c.length) (Ok c) (Err 16)} {y = Err 10}
+    (pick_has NumberedOpened (text_ok m ob c.start c.length) {x = Ok c} {y = Err 16} tt (omega arith))
     (omega arith)

@@ -14,7 +14,7 @@ use Rattle.coding.specs.Bytes.{le, largest, deepest}
 use Rattle.coding.specs.Schema.{Schema}
 use Rattle.coding.specs.Packed.{parse}
 use Rattle.coding.specs.Lawful.{lawful}
-use Rattle.coding.specs.Walk.{start_size, refusal, refuse, allowing, spending, nothing, walk, verdict_at, at_zero, verdict_of, size_ok, start_ok, verdict, root_place}
+use Rattle.coding.specs.Walk.{start_size, refusal, refuse, allowing, spending, nothing, walk, verdict_at, at_zero, verdict_of, size_ok, start_ok, verdict, root_place, Walked}
 use Rattle.coding.specs.Value.{Value}
 use Rattle.coding.specs.Read.{message_read}
 use Rattle.coding.specs.Sheet.{sheet_of, sheet_tree}
@@ -22,7 +22,6 @@ use Rattle.coding.specs.Message.{writable, message_of, refused, message, written
 use Rattle.coding.specs.declared.Object.TheVariants as O
 use Rattle.coding.specs.declared.Budget.{Budget}
 use Rattle.coding.specs.declared.Spent.{Spent}
-use Rattle.coding.specs.declared.Walked.{Walked}
 use Rattle.coding.specs.declared.Verdict.{Verdict}
 use Rattle.laws.specs.Sound.{Sound}
 use Rattle.laws.specs.LawfulSound.{lawful_sound}

@@ -2,7 +2,7 @@
 use Prim.Native.Nat.{ℕ, zero, suc, ◌≤◌, ◌<◌, ◌+◌}
 use Rattle.std.proofs.Common.{not-suc-le-zero, le_of_suc-le-suc, arith, ◌∙◌}
 use mathlib.Core.List.{List, []}
-use Rattle.std.specs.Prelude.{Bool, ◌≡◌, get_or}
+use Rattle.std.specs.Prelude.{Bool, ◌≡◌, get_or, Result}
 use Rattle.std.proofs.Math.Bool.{◌&&◌}
 use Rattle.std.proofs.Math.Path.{refl, ap, ap₂}
 use Rattle.std.proofs.Math.ListN.{length}
@@ -18,7 +18,7 @@ use Rattle.coding.specs.declared.Object.TheVariants as Ob
 use Rattle.coding.specs.declared.Kind.{Kind}
 use Rattle.coding.specs.declared.Member.{Member}
 use Rattle.coding.specs.declared.Cursor.{Cursor}
-use Rattle.coding.specs.declared.Opened.{Opened}
+use Rattle.coding.specs.declared.Content.{Content}
 use Rattle.laws.specs.Structs.{index_holds₂}
 use Rattle.laws.specs.Sound.{All, FlatSound, ObjectSound, KindSound, MemberSound, Sound}
 
@@ -195,7 +195,7 @@ module _ (O N : Schema) (sound : Sound O) (G : SchemaAppends O N) where
     content-length-same (Ob.DirectList t) h n = refl
 
     -- what a direct list's header says more: the table's id is the same
-    pub header-same : (m : List ℕ) (ob : Object) → ObjectSound O ob → (at : ℕ) (fit : Opened)
+    pub header-same : (m : List ℕ) (ob : Object) → ObjectSound O ob → (at : ℕ) (fit : Result Content ℕ)
         → header_tested o O m ob at fit ≡ header_tested o N m ob at fit
     unfolding header_tested direct_header
     header-same m Ob.Text h at fit = refl

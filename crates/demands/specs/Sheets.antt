@@ -1,7 +1,7 @@
 -- Decode undoes encode on every value a schema can show; a sheet that decodes is the encoding of what it decodes to, byte
 -- for byte, so a lawful sheet has one tree and a tree one sheet; the sheet of an accepted message is lawful unless it is
 -- over the size. Which values a schema can show is said in Shown.
-use Rattle.std.specs.Prelude.{◌≡◌, List, ◌++◌, Bool, ◌&&◌, ℕ, ◌<◌, ◌≤◌, length, get_or, replicate, ltb}
+use Rattle.std.specs.Prelude.{◌≡◌, List, ◌++◌, Bool, ◌&&◌, ℕ, ◌<◌, ◌≤◌, length, get_or, replicate, ltb, Ok}
 use Rattle.std.proofs.Math.Path.{refl}
 use Rattle.std.proofs.Common.{sym, ap, ◌∙◌, arith}
 use Rattle.std.proofs.Math.Bool.{true, false}
@@ -23,7 +23,6 @@ use Rattle.coding.specs.Message.{message_sheet}
 use Rattle.coding.specs.declared.Object.TheVariants as O
 use Rattle.coding.specs.declared.Budget.{Budget}
 use Rattle.coding.specs.declared.Spent.{Spent}
-use Rattle.coding.specs.declared.Walked.TheVariants.{Going}
 use Rattle.laws.specs.Sound.{Sound}
 use Rattle.laws.specs.LawfulSound.{lawful_sound}
 use Rattle.laws.specs.Rules.{lawful-wide}
@@ -110,7 +109,7 @@ module _ (S : Schema) (G : Sound S) where
 
 -- the sheet of an accepted message is lawful unless it is over the size, for a schema and the walk
 module _ (S : Schema) (G : Sound S) (m : List ℕ) (bytes : (i : ℕ) → get_or m i 0 < 256) (sized : length m ≤ largest) (o : ℕ) (wide : 0 < o) (budget : Budget)
-    (s : Spent) (accepted : walk o S m budget ≡ Going s) where
+    (s : Spent) (accepted : walk o S m budget ≡ Ok s) where
   pub accepted-shown : ShownAtRoot S (message_read o S m)
   accepted-shown = ends_going accepted (walk_ends S G m bytes sized o wide budget)
 

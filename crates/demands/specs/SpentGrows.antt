@@ -1,7 +1,7 @@
 -- What a walk spends, refused or not: a relation between what was spent before and what is spent after that holds of a visit and of
 -- content within their allowances holds of every walk. So what is spent never falls, and it stays within both allowances.
 use Prim.Native.Nat.{ℕ, zero, suc, ◌≤◌, ◌<◌, ◌+◌}
-use Rattle.std.specs.Prelude.{List, Bool, ◌≡◌, leb}
+use Rattle.std.specs.Prelude.{List, Bool, ◌≡◌, leb, Result, Ok, Err}
 use Rattle.std.proofs.Math.Bool.{true, false}
 use Rattle.std.proofs.Math.Path.{refl}
 use Rattle.std.proofs.Math.Dec.{ltb}
@@ -11,23 +11,20 @@ use Rattle.coding.specs.Bytes.{deepest}
 use Rattle.coding.specs.Schema.{Schema}
 use Rattle.coding.specs.Packed.{parse}
 use Rattle.coding.specs.Lawful.{lawful}
-use Rattle.coding.specs.Walk.{placed, content_length, fit_object, bytes_tested, refuse, and_then, Child, enter, with_content, admit, arrive, too_deep, one_more, counted, visit, root_place, nothing, walk, verdict_of, spent_of, early, size_ok, start_ok, verdict}
+use Rattle.coding.specs.Walk.{placed, content_length, fit_object, bytes_tested, refuse, and_then, Child, enter, with_content, admit, arrive, too_deep, one_more, counted, visit, root_place, nothing, walk, verdict_of, spent_of, early, size_ok, start_ok, verdict, Walked}
 use Rattle.coding.specs.declared.Object.{Object}
 use Rattle.coding.specs.declared.Object.TheVariants as Ob
 use Rattle.coding.specs.declared.Place.{Place}
-use Rattle.coding.specs.declared.Opened.{Opened}
-use Rattle.coding.specs.declared.Opened.TheVariants as Op
+use Rattle.coding.specs.declared.Content.{Content}
 use Rattle.coding.specs.declared.Budget.{Budget}
 use Rattle.coding.specs.declared.Spent.{Spent}
-use Rattle.coding.specs.declared.Walked.{Walked}
-use Rattle.coding.specs.declared.Walked.TheVariants.{Going, Refused}
 use Rattle.demands.specs.Spending.{NoMore, allowed, Affords, no_more_refl, no_more_trans, nothing_least, one_more_up, with-content_up, one_more_affords, with-content_affords}
 use Rattle.demands.specs.TwoWalks.{Beside, enter_beside}
 
 -- what is spent where a walk ends
 unfoldable pub spent_by : Walked → Spent
-spent_by (Going s) = s
-spent_by (Refused r s) = s
+spent_by (Ok s) = s
+spent_by (Err (r, s)) = s
 
 -- ---- a walk beside itself
 abbrev pub Grows : (Spent → Spent → Type 0) → Spent → Walked → Walked → Type 0
@@ -37,8 +34,8 @@ module _ (R : Spent → Spent → Type 0) (none : (s : Spent) → R s s) (both :
   then_grows : (s : Spent) (w w' : Walked) (next next' : Spent → Walked) → Grows R s w w' → ((t : Spent) → Grows R t (next t) (next' t))
       → Grows R s (and_then w next) (and_then w' next')
   unfolding and_then spent_by
-  then_grows s (Going t) w' next next' h f = both s t _ h (f t)
-  then_grows s (Refused r t) w' next next' h f = h
+  then_grows s (Ok t) w' next next' h f = both s t _ h (f t)
+  then_grows s (Err (r, t)) w' next next' h f = h
 
   grows : Beside (Grows R)
   unfolding spent_by
@@ -53,21 +50,21 @@ pub record Charges (b : Budget) (R : Spent → Spent → Type 0) : Type 0 where
 
 module _ (b : Budget) (R : Spent → Spent → Type 0) (C : Charges b R) where
   module _ (child : Child) (H : (ob : Object) (p : Place) (s : Spent) → R s (spent_by (child ob p s))) (o : ℕ) (S : Schema) (m : List ℕ) where
-    admit_grows : (ob : Object) (holder : ℕ) (x : Opened) (s : Spent) → R s (spent_by (admit child o S m b ob holder x s))
+    admit_grows : (ob : Object) (holder : ℕ) (x : Result Content ℕ) (s : Spent) → R s (spent_by (admit child o S m b ob holder x s))
     unfolding admit refuse spent_by
-    admit_grows ob holder (Op.Refused n) s = C.none s
-    admit_grows ob holder (Op.Content start n) s = by (leb (s.content + content_length o S ob n) b.content) refl
+    admit_grows ob holder (Err n) s = C.none s
+    admit_grows ob holder (Ok x) s = by (leb (s.content + content_length o S ob x.length) b.content) refl
       where
         c : ℕ
-        c = content_length o S ob n
+        c = content_length o S ob x.length
 
         inner : Walked
-        inner = enter child o S m ob holder (bytes_tested m ob (Op.Content start n)) (with_content c s)
+        inner = enter child o S m ob holder (bytes_tested m ob (Ok x)) (with_content c s)
 
         by : (t : Bool) → leb (s.content + c) b.content ≡ t → R s (spent_by (pick t inner (refuse 17 holder s)))
         by true e =
             C.both s (with_content c s) _ (C.a-content c s (leb-true (s.content + c) b.content e))
-            (enter_beside (Grows R) (grows R C.none C.both) child child H o S m ob holder (bytes_tested m ob (Op.Content start n)) (with_content c s))
+            (enter_beside (Grows R) (grows R C.none C.both) child child H o S m ob holder (bytes_tested m ob (Ok x)) (with_content c s))
         by false e = C.none s
 
   counted_grows : (child : Child) → ((ob : Object) (p : Place) (s : Spent) → R s (spent_by (child ob p s)))
@@ -116,8 +113,8 @@ stays_within b =
 -- what the verdict of a walk says was spent
 pub walked_spent : (w : Walked) → spent_of (verdict_of w) ≡ spent_by w
 unfolding verdict_of spent_by
-walked_spent (Going s) = refl
-walked_spent (Refused r s) = refl
+walked_spent (Ok s) = refl
+walked_spent (Err (r, s)) = refl
 
 walk_affords : (o : ℕ) (S : Schema) (m : List ℕ) (b : Budget) → Affords b (spent_by (walk o S m b))
 unfolding walk

@@ -1,10 +1,13 @@
 -- "texts and bytes can be had as a part of the message": there is a part exactly where the field's answer is a text or bytes, and
 -- it has the answer's length. Which bytes they are on an accepted message is said in Fields.
 -- `o` is the width of an offset in bytes.
-use Rattle.std.specs.Prelude.{◌≡◌, refl, true, List, ◌⊎◌, ℕ}
+use Rattle.std.specs.Prelude.{◌≡◌, refl, List, ◌⊎◌, ℕ, Some}
 use Rattle.std.proofs.Common.{sym, ap, ◌∙◌, inl, inr, arith}
+use Rattle.std.proofs.lemmas.Option.{none-some}
 use Rattle.coding.specs.Field as Field
 use Rattle.coding.specs.Field.{field_found, field, field_span}
+use Rattle.coding.specs.Walk.{content_at}
+use Rattle.coding.specs.declared.Content.{Content}
 use Rattle.coding.specs.declared.Flat.{Flat}
 use Rattle.coding.specs.declared.Flat.TheVariants as F
 use Rattle.coding.specs.declared.Kind.{Kind}
@@ -35,33 +38,33 @@ no-text-direct k e (inl f) = omega arith
 no-text-direct k e (inr f) = omega arith
 
 -- ---- where there is a part, the answer is a text or bytes
-object_there : (ob : Object) (start n : ℕ) → (Field.object_span ob start n).there ≡ true
-    → IsText (Field.record_kind ob) × ((Field.object_span ob start n).length ≡ n)
-unfolding Field.object_span Field.span_at Field.no_span Field.record_kind
-object_there O.Text start n h = (inl refl, refl)
-object_there O.Bytes start n h = (inr refl, refl)
-object_there (O.List i) start n h = nothing (cc)
-object_there (O.Table i) start n h = nothing (cc)
-object_there (O.DirectList t) start n h = nothing (cc)
+object_there : (ob : Object) (start n : ℕ) (c : Content) → Field.object_span ob start n ≡ Some c
+    → IsText (Field.record_kind ob) × (c.length ≡ n)
+unfolding Field.object_span Field.record_kind
+object_there O.Text start n c h = (inl refl, cc)
+object_there O.Bytes start n c h = (inr refl, cc)
+object_there (O.List i) start n c h = absurd (none-some c h)
+object_there (O.Table i) start n c h = absurd (none-some c h)
+object_there (O.DirectList t) start n c h = absurd (none-some c h)
 
-found_there : (f : Found) → (Field.found_span f).there ≡ true
-    → (k at : ℕ) × (Field.answer_of f ≡ A.Object k at (Field.found_span f).length) × IsText k
-unfolding Field.found_span Field.no_span Field.answer_of
-found_there (Fd.Refused r) h = nothing (cc)
-found_there Fd.Absent h = nothing (cc)
-found_there (Fd.Unknown x) h = nothing (cc)
-found_there (Fd.Value k x holder) h = nothing (cc)
-found_there (Fd.Struct i at holder) h = nothing (cc)
-found_there (Fd.Object ob at start n d) h =
-    let y = object_there ob start n h in
+found_there : (f : Found) (c : Content) → Field.found_span f ≡ Some c
+    → (k at : ℕ) × (Field.answer_of f ≡ A.Object k at c.length) × IsText k
+unfolding Field.found_span Field.answer_of
+found_there (Fd.Refused r) c h = absurd (none-some c h)
+found_there Fd.Absent c h = absurd (none-some c h)
+found_there (Fd.Unknown x) c h = absurd (none-some c h)
+found_there (Fd.Value k x holder) c h = absurd (none-some c h)
+found_there (Fd.Struct i at holder) c h = absurd (none-some c h)
+found_there (Fd.Object ob at start n d) c h =
+    let y = object_there ob start n c h in
     (Field.record_kind ob, at, ap (A.Object (Field.record_kind ob) at) (sym y.1), y.0)
 
 -- ---- where the answer is a text or bytes, there is a part
 object-text : (ob : Object) (start n k : ℕ) → Field.record_kind ob ≡ k → IsText k
-    → ((Field.object_span ob start n).there ≡ true) × ((Field.object_span ob start n).length ≡ n)
-unfolding Field.object_span Field.span_at Field.record_kind
-object-text O.Text start n k e t = (refl, refl)
-object-text O.Bytes start n k e t = (refl, refl)
+    → Field.object_span ob start n ≡ Some (content_at start n)
+unfolding Field.object_span Field.record_kind
+object-text O.Text start n k e t = refl
+object-text O.Bytes start n k e t = refl
 object-text (O.List i) start n k e t = absurd (no_text k (sym e) t)
 object-text (O.Table i) start n k e t = absurd (no-text-table k (sym e) t)
 object-text (O.DirectList r) start n k e t = absurd (no-text-direct k (sym e) t)
@@ -81,7 +84,7 @@ value-object (OfObject ob) x k at n e = cc
 value-object (OfUnion i) x k at n e = cc
 
 found-text : (f : Found) (k at n : ℕ) → Field.answer_of f ≡ A.Object k at n → IsText k
-    → ((Field.found_span f).there ≡ true) × ((Field.found_span f).length ≡ n)
+    → (start : ℕ) × (Field.found_span f ≡ Some (content_at start n))
 unfolding Field.found_span Field.answer_of
 found-text (Fd.Refused r) k at n e t = nothing (cc)
 found-text Fd.Absent k at n e t = nothing (cc)
@@ -91,17 +94,16 @@ found-text (Fd.Struct i p holder) k at n e t = nothing (cc)
 found-text (Fd.Object ob p start z d) k at n e t =
     let a : Field.record_kind ob ≡ k = cc in
     let b : z ≡ n = cc in
-    let y = object-text ob start z k a t in
-    (y.0, y.1 ∙ b)
+    (start, object-text ob start z k a t ∙ ap (λ (length : ℕ). Some (content_at start length)) b)
 
 -- THE CLAIM
 module _ (o : ℕ) (b m path : List ℕ) where
-  pub part_answers : (field_span o b m path).there ≡ true
-      → (k at : ℕ) × (field o b m path ≡ A.Object k at (field_span o b m path).length) × IsText k
+  pub part_answers : (c : Content) → field_span o b m path ≡ Some c
+      → (k at : ℕ) × (field o b m path ≡ A.Object k at c.length) × IsText k
   unfolding field field_span
-  part_answers h = found_there (field_found o b m path) h
+  part_answers c h = found_there (field_found o b m path) c h
 
   pub text-part : (k at n : ℕ) → field o b m path ≡ A.Object k at n → IsText k
-      → ((field_span o b m path).there ≡ true) × ((field_span o b m path).length ≡ n)
+      → (start : ℕ) × (field_span o b m path ≡ Some (content_at start n))
   unfolding field field_span
   text-part k at n e t = found-text (field_found o b m path) k at n e t

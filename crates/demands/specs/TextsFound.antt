@@ -1,5 +1,5 @@
 -- A path that comes to a text has judged it, whatever else the message holds: the bytes that it comes to are in order.
-use Rattle.std.specs.Prelude.{◌≡◌, Bool, length, take, ltb, leb, eqb}
+use Rattle.std.specs.Prelude.{◌≡◌, Bool, length, take, ltb, leb, eqb, Result, Ok, Err}
 use Rattle.std.proofs.Math.Path.{refl}
 use Rattle.std.proofs.Math.Bool.{true, false}
 use mathlib.Core.List.{List, [], ◌∷◌}
@@ -22,8 +22,7 @@ use Rattle.coding.specs.declared.Place.{Place}
 use Rattle.coding.specs.declared.Place.TheVariants.{ByOffset, InPlace}
 use Rattle.coding.specs.declared.Step.{Step}
 use Rattle.coding.specs.declared.Step.TheVariants as St
-use Rattle.coding.specs.declared.Opened.{Opened}
-use Rattle.coding.specs.declared.Opened.TheVariants as Op
+use Rattle.coding.specs.declared.Content.{Content}
 use Rattle.coding.specs.declared.Found.{Found}
 use Rattle.coding.specs.declared.Found.TheVariants as Fd
 
@@ -45,13 +44,13 @@ module _ (o : ℕ) (S : Schema) (m : List ℕ) where
   unfolding Field.no_part
   no-part at = tt
 
-  opened_tested : (ob : Object) (at d : ℕ) (fit : Opened) → Tested m (Field.opened ob at d (bytes_tested m ob fit))
+  opened_tested : (ob : Object) (at d : ℕ) (fit : Result Content ℕ) → Tested m (Field.opened ob at d (bytes_tested m ob fit))
   unfolding Field.opened bytes_tested
-  opened_tested ob at d (Op.Refused n) = tt
-  opened_tested ob at d (Op.Content start n) = by (end_ok m ob start n) (text_ok m ob start n) refl
+  opened_tested ob at d (Err n) = tt
+  opened_tested ob at d (Ok c) = by (end_ok m ob c.start c.length) (text_ok m ob c.start c.length) refl
     where
-      by : (f g : Bool) → text_ok m ob start n ≡ g
-          → Tested m (Field.opened ob at d (pick f (pick g (Op.Content start n) (Op.Refused 16)) (Op.Refused 10)))
+      by : (f g : Bool) → text_ok m ob c.start c.length ≡ g
+          → Tested m (Field.opened ob at d (pick f (pick g (Ok c) (Err 16)) (Err 10)))
       by true true h = h
       by true false h = tt
       by false g h = tt

@@ -1,5 +1,5 @@
 -- A walk that goes on has gone over texts only: every text of the values that are read there has the grammar of RFC 3629.
-use Rattle.std.specs.Prelude.{◌≡◌, refl, Bool, ◌&&◌, length, take, drop, ltb, eqb}
+use Rattle.std.specs.Prelude.{◌≡◌, refl, Bool, ◌&&◌, length, take, drop, ltb, eqb, Result, Ok, Err}
 use Rattle.std.proofs.Common.{sym, ap₂, arith}
 use Rattle.std.proofs.Math.Path.{subst}
 use Rattle.std.proofs.Math.Bool.{true, false}
@@ -24,11 +24,9 @@ use Rattle.coding.specs.declared.Cursor.{Cursor}
 use Rattle.coding.specs.declared.Place.{Place}
 use Rattle.coding.specs.declared.Place.TheVariants.{ByOffset, InPlace}
 use Rattle.coding.specs.declared.Step.{Step}
-use Rattle.coding.specs.declared.Opened.{Opened}
-use Rattle.coding.specs.declared.Opened.TheVariants as Op
+use Rattle.coding.specs.declared.Content.{Content}
 use Rattle.coding.specs.declared.Budget.{Budget}
 use Rattle.coding.specs.declared.Spent.{Spent}
-use Rattle.coding.specs.declared.Walked.TheVariants.{Going}
 use Rattle.laws.specs.Sound.{All}
 use Rattle.laws.specs.All.{all_append}
 use Rattle.demands.specs.GoingOn.{refuse_going, refuse-part_going, both}
@@ -41,52 +39,52 @@ use Rattle.demands.specs.Utf8.{text-exactly}
 abbrev pub AllText : List (List ℕ) → Type 0
 AllText l = All Characters l
 
-not-content : {A : Type 0} (k start n : ℕ) → Op.Refused k ≡ Op.Content start n → A
+not-content : {A : Type 0} (k start n : ℕ) → Err k ≡ Ok (W.content_at start n) → A
 not-content k start n e = let z : ◌≡◌ {A = ℕ} 0 1 = cc in absurd (omega arith)
 
 -- ---- an arrival from which the walk has gone on: its content fits, its bytes are in order, and the walk has gone on through it
-record Gone (child : W.Child) (o : ℕ) (S : Schema) (m : List ℕ) (ob : Object) (at : ℕ) (fit : Opened) (t : Spent) : Type 0 where
+record Gone (child : W.Child) (o : ℕ) (S : Schema) (m : List ℕ) (ob : Object) (at : ℕ) (fit : Result Content ℕ) (t : Spent) : Type 0 where
   start : ℕ
   size : ℕ
   from : Spent
-  fits : fit ≡ Op.Content start size
+  fits : fit ≡ Ok (W.content_at start size)
   text : W.text_ok m ob start size ≡ true
-  goes : W.content child o S m ob at start size from ≡ Going t
+  goes : W.content child o S m ob at start size from ≡ Ok t
 
 module _ (o : ℕ) (S : Schema) (m : List ℕ) where
-  admit_gone : (child : W.Child) (b : Budget) (ob : Object) (at : ℕ) (fit : Opened) (s t : Spent)
-      → W.admit child o S m b ob at fit s ≡ Going t → Gone child o S m ob at fit t
+  admit_gone : (child : W.Child) (b : Budget) (ob : Object) (at : ℕ) (fit : Result Content ℕ) (s t : Spent)
+      → W.admit child o S m b ob at fit s ≡ Ok t → Gone child o S m ob at fit t
   unfolding W.admit W.enter W.bytes_tested
-  admit_gone child b ob at (Op.Refused n) s t e = absurd (refuse_going _ _ _ _ e)
-  admit_gone child b ob at (Op.Content start n) s t e = charged (leb (s.content + W.content_length o S ob n) b.content) e
+  admit_gone child b ob at (Err n) s t e = absurd (refuse_going _ _ _ _ e)
+  admit_gone child b ob at (Ok c) s t e = charged (leb (s.content + W.content_length o S ob c.length) b.content) e
     where
-      tested : (f g : Bool) (u : Spent) → W.text_ok m ob start n ≡ g
-          → W.enter child o S m ob at (pick f (pick g (Op.Content start n) (Op.Refused 16)) (Op.Refused 10)) u ≡ Going t
-          → Gone child o S m ob at (Op.Content start n) t
-      tested true true u h q = record { start = start; size = n; from = u; fits = refl; text = h; goes = q }
+      tested : (f g : Bool) (u : Spent) → W.text_ok m ob c.start c.length ≡ g
+          → W.enter child o S m ob at (pick f (pick g (Ok c) (Err 16)) (Err 10)) u ≡ Ok t
+          → Gone child o S m ob at (Ok c) t
+      tested true true u h q = record { start = c.start; size = c.length; from = u; fits = refl; text = h; goes = q }
       tested true false u h q = absurd (refuse_going _ _ _ _ q)
       tested false g u h q = absurd (refuse_going _ _ _ _ q)
 
       charged : (g : Bool)
           → pick g
-          (W.enter child o S m ob at (W.bytes_tested m ob (Op.Content start n)) (W.with_content (W.content_length o S ob n) s))
+          (W.enter child o S m ob at (W.bytes_tested m ob (Ok c)) (W.with_content (W.content_length o S ob c.length) s))
           (W.refuse 17 at s)
-          ≡ Going t
-          → Gone child o S m ob at (Op.Content start n) t
-      charged true q = tested (W.end_ok m ob start n) (W.text_ok m ob start n) (W.with_content (W.content_length o S ob n) s) refl q
+          ≡ Ok t
+          → Gone child o S m ob at (Ok c) t
+      charged true q = tested (W.end_ok m ob c.start c.length) (W.text_ok m ob c.start c.length) (W.with_content (W.content_length o S ob c.length) s) refl q
       charged false q = absurd (refuse_going _ _ _ _ q)
 
   -- ---- what is read stands where the content fits
-  content-at : (ob : Object) (at s k start n : ℕ) → W.fit_content o S m ob at s k ≡ Op.Content start n → (s ≡ start) × (k ≡ n)
+  content-at : (ob : Object) (at s k start n : ℕ) → W.fit_content o S m ob at s k ≡ Ok (W.content_at start n) → (s ≡ start) × (k ≡ n)
   unfolding W.fit_content
   content-at ob at s k start n e = by (leb (s + W.content_size o S m ob at k) (length m)) e
     where
-      by : (f : Bool) → pick f (Op.Content s k) (Op.Refused 6) ≡ Op.Content start n → (s ≡ start) × (k ≡ n)
-      by true q = let a : s ≡ start = cc in let c : k ≡ n = cc in (a, c)
+      by : (f : Bool) → pick {A = Result Content ℕ} f (Ok (W.content_at s k)) (Err 6) ≡ Ok (W.content_at start n) → (s ≡ start) × (k ≡ n)
+      by true q = (grind arith, grind arith)
       by false q = not-content 6 start n q
 
-  header_at : (ob : Object) (at start n : ℕ) (fit : Opened) → W.header_tested o S m ob at fit ≡ Op.Content start n
-      → fit ≡ Op.Content start n
+  header_at : (ob : Object) (at start n : ℕ) (fit : Result Content ℕ) → W.header_tested o S m ob at fit ≡ Ok (W.content_at start n)
+      → fit ≡ Ok (W.content_at start n)
   unfolding W.header_tested W.direct_header
   header_at O.Text at start n fit e = e
   header_at O.Bytes at start n fit e = e
@@ -95,21 +93,21 @@ module _ (o : ℕ) (S : Schema) (m : List ℕ) where
   header_at (O.DirectList t) at start n fit e =
       by (eqb (W.element_id o m at) (table_of S t).id) (leb (le m (at + 4) o) W.most_elements) e
     where
-      by : (f g : Bool) → pick f (pick g fit (Op.Refused 6)) (Op.Refused 7) ≡ Op.Content start n → fit ≡ Op.Content start n
+      by : (f g : Bool) → pick f (pick g fit (Err 6)) (Err 7) ≡ Ok (W.content_at start n) → fit ≡ Ok (W.content_at start n)
       by true true q = q
       by true false q = not-content 6 start n q
       by false g q = not-content 7 start n q
 
-  fit-read : (child : R.Child) (ob : Object) (p : Place) (start n : ℕ) → W.fit_object o S m ob p ≡ Op.Content start n
+  fit-read : (child : R.Child) (ob : Object) (p : Place) (start n : ℕ) → W.fit_object o S m ob p ≡ Ok (W.content_at start n)
       → R.place_read child o S m ob p ≡ R.content_read child o S m ob (W.placed p) start n
   unfolding W.fit_object W.placed R.place_read
   fit-read child ob (ByOffset x) start n e =
       by (leb (W.start_size o) x && leb (x + W.header_size o ob) (length m)) (eqb (le m x 4) (W.magic S ob)) e
     where
-      fit : Opened
+      fit : Result Content ℕ
       fit = W.fit_content o S m ob x (x + W.header_size o ob) (le m (x + 4) o)
 
-      by : (f g : Bool) → pick f (pick g (W.header_tested o S m ob x fit) (Op.Refused 7)) (Op.Refused 6) ≡ Op.Content start n
+      by : (f g : Bool) → pick f (pick g (W.header_tested o S m ob x fit) (Err 7)) (Err 6) ≡ Ok (W.content_at start n)
           → R.content_read child o S m ob x (x + W.header_size o ob) (le m (x + 4) o) ≡ R.content_read child o S m ob x start n
       by true true q =
           let h = content-at ob x (x + W.header_size o ob) (le m (x + 4) o) start n (header_at ob x start n fit q) in
@@ -118,21 +116,21 @@ module _ (o : ℕ) (S : Schema) (m : List ℕ) where
       by false g q = not-content 6 start n q
   fit-read child ob (InPlace a k) start n e = by (W.stands_in_place ob) e
     where
-      by : (f : Bool) → pick f (W.fit_content o S m ob a a k) (Op.Refused 6) ≡ Op.Content start n
+      by : (f : Bool) → pick f (W.fit_content o S m ob a a k) (Err 6) ≡ Ok (W.content_at start n)
           → R.content_read child o S m ob a a k ≡ R.content_read child o S m ob a start n
       by true q = let h = content-at ob a a k start n q in ap₂ (λ (y z : ℕ). R.content_read child o S m ob a y z) h.0 h.1
       by false q = not-content 6 start n q
 
   -- ---- members, elements and contents, where the texts below are text
   module _ (child : W.Child) (reader : R.Child) (texts : Texts)
-      (below : (ob : Object) (p : Place) (s t : Spent) → child ob p s ≡ Going t → AllText (texts ob (reader ob p))) where
-    choice-texts : (holder j : ℕ) (ob : Object) (p : Place) (s t : Spent) → W.follow_choice child holder j ob p s ≡ Going t
+      (below : (ob : Object) (p : Place) (s t : Spent) → child ob p s ≡ Ok t → AllText (texts ob (reader ob p))) where
+    choice-texts : (holder j : ℕ) (ob : Object) (p : Place) (s t : Spent) → W.follow_choice child holder j ob p s ≡ Ok t
         → AllText (texts ob (reader ob p))
     unfolding W.follow_choice
     choice-texts holder j ob (InPlace a n) s t e = below ob (InPlace a n) s t e
     choice-texts holder j ob (ByOffset x) s t e = by (eqb x 0) e
       where
-        by : (f : Bool) → pick f (W.refuse_part 9 holder j s) (child ob (ByOffset x) s) ≡ Going t → AllText (texts ob (reader ob (ByOffset x)))
+        by : (f : Bool) → pick f (W.refuse_part 9 holder j s) (child ob (ByOffset x) s) ≡ Ok t → AllText (texts ob (reader ob (ByOffset x)))
         by true q = absurd (refuse-part_going _ _ _ _ _ q)
         by false q = below ob (ByOffset x) s t q
 
@@ -152,7 +150,7 @@ module _ (o : ℕ) (S : Schema) (m : List ℕ) where
     unknown-texts (OfObject ob) x = tt
     unknown-texts (OfUnion i) x = tt
 
-    step-texts : (holder j : ℕ) {k : Kind} {step : Step} → OfKind S k step → (s t : Spent) → W.follow child holder j step s ≡ Going t
+    step-texts : (holder j : ℕ) {k : Kind} {step : Step} → OfKind S k step → (s t : Spent) → W.follow child holder j step s ≡ Ok t
         → AllText (part_texts texts S k (R.step_read (R.struct_read S m) reader step))
     unfolding W.follow R.step_read part_texts present as_number as_object
     step-texts holder j (refused n) s t e = absurd (refuse-part_going n holder j _ _ e)
@@ -165,7 +163,7 @@ module _ (o : ℕ) (S : Schema) (m : List ℕ) where
         subst (λ (x : Object). AllText (texts x (reader ob p))) q (choice-texts holder j ob p s t e)
 
     members-texts : (holder start n : ℕ) (rs : List Member) (c : Cursor) (j : ℕ) (s t : Spent)
-        → W.members child o S m holder start n c j rs s ≡ Going t
+        → W.members child o S m holder start n c j rs s ≡ Ok t
         → AllText (members_texts texts S rs (R.members_read reader o S m start n c rs))
     unfolding W.members R.members_read members_texts first others
     members-texts holder start n [] c j s t e = tt
@@ -177,7 +175,7 @@ module _ (o : ℕ) (S : Schema) (m : List ℕ) where
         (step-texts holder j (member_kind S o m start n c r) s b.middle b.first)
         (members-texts holder start n rs (after_member o S r c) (j + 1) b.middle t b.second)
 
-    elements-texts : (holder start : ℕ) (k : Kind) (n i : ℕ) (s t : Spent) → W.elements child o S m holder start k n i s ≡ Going t
+    elements-texts : (holder start : ℕ) (k : Kind) (n i : ℕ) (s t : Spent) → W.elements child o S m holder start k n i s ≡ Ok t
         → AllText (elements_texts texts S k (R.elements_read reader o S m start k n i))
     unfolding W.elements R.elements_read elements_texts
     elements-texts holder start k zero i s t e = tt
@@ -189,7 +187,7 @@ module _ (o : ℕ) (S : Schema) (m : List ℕ) where
         (step-texts holder i (element_kind S o m k start i) s b.middle b.first)
         (elements-texts holder start k n (i + 1) b.middle t b.second)
 
-    directs-texts : (r w n at : ℕ) (s t : Spent) → W.directs child r w n at s ≡ Going t
+    directs-texts : (r w n at : ℕ) (s t : Spent) → W.directs child r w n at s ≡ Ok t
         → AllText (directs_texts texts r (R.directs_read reader r w n at))
     unfolding W.directs R.directs_read directs_texts
     directs-texts r w zero at s t e = tt
@@ -202,7 +200,7 @@ module _ (o : ℕ) (S : Schema) (m : List ℕ) where
         (directs-texts r w n (at + w) b.middle t b.second)
 
     content-texts : (ob : Object) (at start n : ℕ) (s t : Spent) → W.text_ok m ob start n ≡ true
-        → W.content child o S m ob at start n s ≡ Going t
+        → W.content child o S m ob at start n s ≡ Ok t
         → AllText (content_texts texts S ob (R.content_read reader o S m ob at start n))
     unfolding W.text_ok W.content R.content_read content_texts as_blob as_row
     content-texts O.Text at start n s t h e = ((text-exactly (take n (drop start m))).0 h, tt)
@@ -212,15 +210,15 @@ module _ (o : ℕ) (S : Schema) (m : List ℕ) where
     content-texts (O.DirectList r) at start n s t h e = directs-texts r (W.element_size o m at) n start s t e
 
   -- ---- an arrival that goes on, d objects deep
-  pub visit-texts : (b : Budget) (d : ℕ) (ob : Object) (p : Place) (s t : Spent) → W.visit d o S m b ob p s ≡ Going t
+  pub visit-texts : (b : Budget) (d : ℕ) (ob : Object) (p : Place) (s t : Spent) → W.visit d o S m b ob p s ≡ Ok t
       → AllText (tree_texts d S ob (R.read d o S m ob p))
   unfolding W.visit W.counted W.arrive R.read tree_texts
   visit-texts b zero ob p s t e = tt
   visit-texts b (suc d) ob p s t e = by (visit-texts b d) (ltb s.visits b.visits) e
     where
-      by : ((k : Object) (q : Place) (u v : Spent) → W.visit d o S m b k q u ≡ Going v → AllText (tree_texts d S k (R.read d o S m k q)))
+      by : ((k : Object) (q : Place) (u v : Spent) → W.visit d o S m b k q u ≡ Ok v → AllText (tree_texts d S k (R.read d o S m k q)))
           → (f : Bool)
-          → pick f (W.admit (W.visit d o S m b) o S m b ob (W.placed p) (W.fit_object o S m ob p) (W.one_more s)) (W.refuse 4 (W.placed p) s) ≡ Going t
+          → pick f (W.admit (W.visit d o S m b) o S m b ob (W.placed p) (W.fit_object o S m ob p) (W.one_more s)) (W.refuse 4 (W.placed p) s) ≡ Ok t
           → AllText (content_texts (tree_texts d S) S ob (R.place_read (R.read d o S m) o S m ob p))
       by below true q =
           let g = admit_gone (W.visit d o S m b) b ob (W.placed p) (W.fit_object o S m ob p) (W.one_more s) t q in

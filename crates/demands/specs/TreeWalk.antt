@@ -1,6 +1,6 @@
 -- A walk over a message that holds a tree arrives at the tree's objects in turn: with each budget it comes to what their content
 -- lengths come to.
-use Rattle.std.specs.Prelude.{◌≡◌, Bool, ℕ, zero, suc, ◌+◌, ◌*◌, ◌≤◌, ltb, leb, length, get_or, take, drop}
+use Rattle.std.specs.Prelude.{◌≡◌, Bool, ℕ, zero, suc, ◌+◌, ◌*◌, ◌≤◌, ltb, leb, length, get_or, take, drop, Result, Ok}
 use Rattle.std.proofs.Math.Path.{refl, ap, subst}
 use Rattle.std.proofs.Common.{sym, ◌∙◌, length-take, length-drop}
 use mathlib.Core.List.{List, [], ◌∷◌, ◌++◌}
@@ -12,7 +12,7 @@ use Rattle.coding.specs.Bytes.{le}
 use Rattle.coding.specs.Schema.{Schema, table_of}
 use Rattle.coding.specs.Layout.{after_member}
 use Rattle.coding.specs.Step.{member_step, element_step}
-use Rattle.coding.specs.Walk.{Child, placed, magic, header_size, element_id, element_size, most_elements, start_size, content_size, content_length, end_ok, text_ok, fit_content, direct_header, header_tested, stands_in_place, fit_object, bytes_tested, refuse, and_then, follow_choice, follow, members, elements, directs, content, enter, with_content, admit, arrive, one_more, counted, visit}
+use Rattle.coding.specs.Walk.{Child, placed, magic, header_size, element_id, element_size, most_elements, start_size, content_size, content_length, end_ok, text_ok, fit_content, direct_header, header_tested, stands_in_place, fit_object, bytes_tested, refuse, and_then, follow_choice, follow, members, elements, directs, content, enter, with_content, admit, arrive, one_more, counted, visit, content_at, Walked}
 use Rattle.coding.specs.Value.{Value, Values, absent, as_number, as_blob, as_row, as_object, present, first, others, count}
 use Rattle.coding.specs.Message.{length_of}
 use Rattle.coding.specs.declared.Object.{Object}
@@ -24,12 +24,9 @@ use Rattle.coding.specs.declared.Cursor.{Cursor}
 use Rattle.coding.specs.declared.Place.{Place}
 use Rattle.coding.specs.declared.Place.TheVariants.{ByOffset, InPlace}
 use Rattle.coding.specs.declared.Step.{Step}
-use Rattle.coding.specs.declared.Opened.{Opened}
-use Rattle.coding.specs.declared.Opened.TheVariants as Op
+use Rattle.coding.specs.declared.Content.{Content}
 use Rattle.coding.specs.declared.Budget.{Budget}
 use Rattle.coding.specs.declared.Spent.{Spent}
-use Rattle.coding.specs.declared.Walked.{Walked}
-use Rattle.coding.specs.declared.Walked.TheVariants.{Going}
 use Rattle.demands.specs.InTurn.{Ending, goes, stops, spend}
 use Rattle.demands.specs.TreeLengths.{Lengths, part_lengths, members_lengths, elements_lengths, directs_lengths, parts_lengths, tree_lengths}
 use Rattle.demands.specs.TreeHold.{Below, Somewhere, Shows, nothing, scalar, struct, object, choice, MembersHold, no_member, ElementsHold, no-element, DirectsHold, no-direct, ContentHolds, text, bytes, list, table, direct_list, PlaceHolds, by_offset, in_place, HoldsTree}
@@ -37,7 +34,7 @@ use Rattle.demands.specs.TreeHold as T
 
 -- the walk ends so
 abbrev pub Ends : Ending → Walked → Type 0
-Ends (goes s) w = w ≡ Going s
+Ends (goes s) w = w ≡ Ok s
 Ends (stops n s) w = (at : ℕ) × (w ≡ refuse n at s)
 
 -- a part of the walk that arrives at objects of these content lengths, in turn
@@ -45,7 +42,7 @@ abbrev pub Passes : Budget → List ℕ → (Spent → Walked) → Type 0
 Passes b cs w = (s : Spent) → Ends (spend b cs s) (w s)
 
 module _ (b : Budget) where
-  pass_none : Passes b [] (λ s. Going s)
+  pass_none : Passes b [] (λ s. Ok s)
   unfolding spend
   pass_none s = refl
 
@@ -75,7 +72,7 @@ module _ (b : Budget) where
 
 -- an arrival at an object that fits and whose bytes are in order
 module _ (b : Budget) (child : Child) (o : ℕ) (S : Schema) (m : List ℕ) (ob : Object) (p : Place) (start n : ℕ)
-    (fits : fit_object o S m ob p ≡ Op.Content start n) (tested : bytes_tested m ob (Op.Content start n) ≡ Op.Content start n) where
+    (fits : fit_object o S m ob p ≡ Ok (content_at start n)) (tested : bytes_tested m ob (Ok (content_at start n)) ≡ Ok (content_at start n)) where
   abbrev charged : ℕ
   charged = content_length o S ob n
 
@@ -121,7 +118,7 @@ module _ (below : Below) (o : ℕ) (S : Schema) (m : List ℕ) (b : Budget) (chi
   step-passes : {k : Kind} {v : Value} {st : Step} (holder j : ℕ) → Shows below S m k v st
       → Passes b (part_lengths lengths S k v) (follow child holder j st)
   unfolding follow part_lengths present as_number as_object
-  step-passes holder j (nothing {k = k}) = subst (λ (cs : List ℕ). Passes b cs (λ s. Going s)) (no-part k) (pass_none b)
+  step-passes holder j (nothing {k = k}) = subst (λ (cs : List ℕ). Passes b cs (λ s. Ok s)) (no-part k) (pass_none b)
     where
       no-part : (k : Kind) → [] ≡ part_lengths lengths S k absent
       no-part (OfFlat k) = refl
@@ -167,7 +164,7 @@ module _ (below : Below) (o : ℕ) (S : Schema) (m : List ℕ) (b : Budget) (chi
 
   -- the content fits, its bytes are in order, and its length is the value's
   content_fits : {ob : Object} {v : Value} {at start n : ℕ} → ContentHolds below o S m ob v at start n
-      → fit_content o S m ob at start n ≡ Op.Content start n
+      → fit_content o S m ob at start n ≡ Ok (content_at start n)
   unfolding fit_content content_size
   content_fits (text {start = start} {n = n} h f e t) = rw (le-leb (start + (n + 1)) (length m) f)
   content_fits (bytes {start = start} {n = n} h f) = rw (le-leb (start + n) (length m) f)
@@ -176,7 +173,7 @@ module _ (below : Below) (o : ℕ) (S : Schema) (m : List ℕ) (b : Budget) (chi
   content_fits (direct_list {at = at} {start = start} {n = n} e i l f h) = rw (le-leb (start + n * element_size o m at) (length m) f)
 
   -- what a direct list's header says more is in order
-  header_tested_lem : {ob : Object} {v : Value} {at start n : ℕ} → ContentHolds below o S m ob v at start n → le m (at + 4) o ≡ n → (fit : Opened)
+  header_tested_lem : {ob : Object} {v : Value} {at start n : ℕ} → ContentHolds below o S m ob v at start n → le m (at + 4) o ≡ n → (fit : Result Content ℕ)
       → header_tested o S m ob at fit ≡ fit
   unfolding header_tested direct_header
   header_tested_lem (text h f e t) q fit = refl
@@ -187,7 +184,7 @@ module _ (below : Below) (o : ℕ) (S : Schema) (m : List ℕ) (b : Budget) (chi
       rw (eq-eqb (element_id o m at) (table_of S t).id i, le-leb (le m (at + 4) o) most_elements (omega arith))
 
   content_tested : {ob : Object} {v : Value} {at start n : ℕ} → ContentHolds below o S m ob v at start n
-      → bytes_tested m ob (Op.Content start n) ≡ Op.Content start n
+      → bytes_tested m ob (Ok (content_at start n)) ≡ Ok (content_at start n)
   unfolding bytes_tested end_ok text_ok
   content_tested (text {start = start} {n = n} h f e t) = rw (eq-eqb (get_or m (start + n) 0) 0 e, h, t)
   content_tested (bytes h f) = refl
@@ -208,7 +205,7 @@ module _ (below : Below) (o : ℕ) (S : Schema) (m : List ℕ) (b : Budget) (chi
 
   offset_fits : {ob : Object} {v : Value} (x : ℕ) → start_size o ≤ x → x + header_size o ob ≤ length m → le m x 4 ≡ magic S ob
       → ContentHolds below o S m ob v x (x + header_size o ob) (le m (x + 4) o)
-      → fit_object o S m ob (ByOffset x) ≡ Op.Content (x + header_size o ob) (le m (x + 4) o)
+      → fit_object o S m ob (ByOffset x) ≡ Ok (content_at (x + header_size o ob) (le m (x + 4) o))
   unfolding fit_object
   offset_fits {ob} x l f e h =
       let fit = fit_content o S m ob x (x + header_size o ob) (le m (x + 4) o) in
@@ -216,11 +213,11 @@ module _ (below : Below) (o : ℕ) (S : Schema) (m : List ℕ) (b : Budget) (chi
       (header_tested_lem h refl fit ∙ content_fits h)
 
   in-place_fits : {ob : Object} {v : Value} (a n : ℕ) → stands_in_place ob ≡ true → ContentHolds below o S m ob v a a n
-      → fit_object o S m ob (InPlace a n) ≡ Op.Content a n
+      → fit_object o S m ob (InPlace a n) ≡ Ok (content_at a n)
   unfolding fit_object
   in-place_fits a n e h = rw e (content_fits h)
 
-  arrival-passes : (ob : Object) (v : Value) (p : Place) (start n : ℕ) → fit_object o S m ob p ≡ Op.Content start n
+  arrival-passes : (ob : Object) (v : Value) (p : Place) (start n : ℕ) → fit_object o S m ob p ≡ Ok (content_at start n)
       → ContentHolds below o S m ob v (placed p) start n
       → Passes b (content_length o S ob (length_of o S ob v) ∷ parts_lengths lengths S ob v) (counted (arrive child o S m b) b ob p)
   arrival-passes ob v p start n e h =

@@ -2,12 +2,12 @@
 -- The relation speaks of what was spent before, and of what both walks come to.
 use Prim.Native.Nat.{ℕ, zero, suc, ◌+◌}
 use mathlib.Core.List.{List, [], ◌∷◌}
-use Rattle.std.specs.Prelude.{Bool, true, false, eqb}
+use Rattle.std.specs.Prelude.{Bool, true, false, eqb, Result, Ok, Err}
 use Rattle.coding.specs.Lists.{pick}
 use Rattle.coding.specs.Schema.{Schema, element_of, table_of}
 use Rattle.coding.specs.Layout.{begin, after_member}
 use Rattle.coding.specs.Step.{member_step, element_step}
-use Rattle.coding.specs.Walk.{element_size, refuse, and_then, Child, refuse_part, follow_choice, follow, members, elements, directs, content, enter}
+use Rattle.coding.specs.Walk.{element_size, refuse, and_then, Child, refuse_part, follow_choice, follow, members, elements, directs, content, enter, Walked}
 use Rattle.coding.specs.declared.Object.{Object}
 use Rattle.coding.specs.declared.Object.TheVariants as Ob
 use Rattle.coding.specs.declared.Kind.{Kind}
@@ -17,18 +17,15 @@ use Rattle.coding.specs.declared.Place.{Place}
 use Rattle.coding.specs.declared.Place.TheVariants.{ByOffset, InPlace}
 use Rattle.coding.specs.declared.Step.{Step}
 use Rattle.coding.specs.declared.Step.TheVariants as St
-use Rattle.coding.specs.declared.Opened.{Opened}
-use Rattle.coding.specs.declared.Opened.TheVariants as Op
+use Rattle.coding.specs.declared.Content.{Content}
 use Rattle.coding.specs.declared.Spent.{Spent}
 use Rattle.coding.specs.declared.Refusal.{Refusal}
-use Rattle.coding.specs.declared.Walked.{Walked}
-use Rattle.coding.specs.declared.Walked.TheVariants.{Going, Refused}
 
 -- R holds where both walks go on with nothing more spent, and where both are refused alike; and it is handed on from one walk to the
 -- next
 pub record Beside (R : Spent → Walked → Walked → Type 0) : Type 0 where
-  pub goes : (s : Spent) → R s (Going s) (Going s)
-  pub stops : (r : Refusal) (s : Spent) → R s (Refused r s) (Refused r s)
+  pub goes : (s : Spent) → R s (Ok s) (Ok s)
+  pub stops : (r : Refusal) (s : Spent) → R s (Err (r, s)) (Err (r, s))
   pub then_on : (s : Spent) (w w' : Walked) (next next' : Spent → Walked) → R s w w' → ((t : Spent) → R t (next t) (next' t))
       → R s (and_then w next) (and_then w' next')
 
@@ -85,8 +82,8 @@ module _ (R : Spent → Walked → Walked → Type 0) where
     content_beside (Ob.Table i) holder start n s = members_beside holder start n begin 0 (table_of S i).members s
     content_beside (Ob.DirectList t) holder start n s = directs_beside t (element_size o m holder) n start s
 
-    pub enter_beside : (ob : Object) (holder : ℕ) (x : Opened) (s : Spent)
+    pub enter_beside : (ob : Object) (holder : ℕ) (x : Result Content ℕ) (s : Spent)
         → R s (enter child o S m ob holder x s) (enter child' o S m ob holder x s)
     unfolding enter refuse
-    enter_beside ob holder (Op.Refused n) s = B.stops _ s
-    enter_beside ob holder (Op.Content start n) s = content_beside ob holder start n s
+    enter_beside ob holder (Err n) s = B.stops _ s
+    enter_beside ob holder (Ok c) s = content_beside ob holder c.start c.length s

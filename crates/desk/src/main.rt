@@ -12,23 +12,23 @@ use std::io;
 use std::io::Read;
 use std::rt::Files;
 
-// How many bytes the open file has, all of them read to the start of buf; 0 where a read fails or buf is filled: then the file
+// How many bytes the open file has, all of them read to the start of buf; none where a read fails or buf is filled: then the file
 // is unreadable, or has more bytes than a file may have. Each answer of a read is tested, since a count alone cannot tell a
 // failure from the file's end.
-fn whole<R: Read>(file: &mut R, buf: &mut [u8]) -> usize
-    ensures bound { result ≤ length buf.new }
-    ensures prefix { result ≡ length (take result buf.new) }
-    ensures bytes { 0 < result → IfSome (R.remaining file.old) (λ xs. xs ≡ take result buf.new) }
+fn whole<R: Read>(file: &mut R, buf: &mut [u8]) -> Option<usize>
+    ensures bound { IfSome result (λ n. n ≤ length buf.new) }
+    ensures prefix { IfSome result (λ n. n ≡ length (take n buf.new)) }
+    ensures bytes { IfSome result (λ n. 0 < n → IfSome (R.remaining file.old) (λ xs. xs ≡ take n buf.new)) }
 {
     let mut done = 0;
     while done < buf.len() {
         match file.read(&mut buf[done..]) {
-            Ok(0) => return done,
+            Ok(0) => return Some(done),
             Ok(n) => done += n,
-            Err(_) => return 0,
+            Err(_) => return None,
         }
     }
-    0
+    None
 }
 
 // How many bytes of the file were read to buf, which holds one more than a file may have; 0 where the file cannot be read to
@@ -38,13 +38,9 @@ fn load<F: Files>(files: &F, path: &str, buf: &mut [u8]) -> usize
     ensures prefix { result ≡ length (take result buf.new) }
 {
     match File::open(files, path) {
-        Ok(mut file) => whole(&mut file, buf),
+        Ok(mut file) => whole(&mut file, buf).unwrap_or(0),
         Err(_) => 0,
     }
-}
-
-fn print(rt: &impl Print, n: u64, end: char) -> io::Result<()> {
-    print!(rt; "{n}{end}")
 }
 
 // The verdict by a schema, whose table of positions is made here. No table has more than 64 times 64 rows of twelve bytes, so that there is
@@ -68,7 +64,5 @@ fn main(rt: HostRuntime) -> io::Result<()> {
     let mut message = [0u8; 65537];
     let m = load(&rt, "message.bin", &mut message);
     let v = verdict(&schema[..s], &message[..m]);
-    print(&rt, v.number as u64, ' ')?;
-    print(&rt, v.place as u64, ' ')?;
-    print(&rt, v.visits as u64, '\n')
+    println!(rt; "{} {} {}", v.number, v.place, v.visits)
 }

@@ -1,2 +1,1 @@
-pub mod AnswerCases
 pub mod TextCases

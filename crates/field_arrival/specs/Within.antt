@@ -1,16 +1,22 @@
 -- What a step and a path come to: indices are in range, and what is found lies within the message.
 use Rattle.std.specs.Prelude.{ℕ, ◌+◌, ◌^◌, ◌<◌, ◌≤◌, List, length, get_or}
+use mathlib.Core.Logic.{⊎_elim}
+use native.Mathlib.Omega.{arith}
 use Rattle.coding.specs.Schema.{Schema}
-use Rattle.coding.specs.Packed.{parse}
 use Rattle.coding.specs.Structs.{struct_size}
 use Rattle.coding.specs.Walk.{content_size}
-use Rattle.coding.specs.declared.Object.{Object}
+use Rattle.coding.specs.declared.Flat.{Flat}
+use Rattle.coding.specs.declared.Flat.TheVariants as F
+use Rattle.coding.specs.declared.Kind.{Kind}
+use Rattle.coding.specs.declared.Kind.TheVariants.{OfFlat, OfObject, OfUnion}
 use Rattle.coding.specs.declared.Step.{Step}
 use Rattle.coding.specs.declared.Step.TheVariants as St
 use Rattle.coding.specs.declared.Found.{Found}
 use Rattle.coding.specs.declared.Found.TheVariants as Fd
-use Rattle.laws.specs.Sound.{ObjectSound, KindSound}
+use Rattle.laws.specs.Sound.{FlatSound, ObjectSound, KindSound}
 use Rattle.message_step.specs.Lead.{PlaceSmall}
+use Rattle.schema.specs.declared.held.Reading.{Reading}
+use Rattle.schema.specs.Parsed.{parsed}
 
 -- bytes, and no more than a message may have
 pub record Readable (m : List ℕ) : Type 0 where
@@ -38,9 +44,50 @@ FoundWithin o S m (Fd.Struct i at holder) = (i < length S.structs) × (at + stru
 FoundWithin o S m (Fd.Object ob at start n d) =
     ObjectSound S ob × (start + content_size o S m ob at n ≤ length m) × (length m ≤ 16777215) × (at < 2 ^ 60)
 
--- the same by the schema in bytes b
-abbrev pub StepIn : List ℕ → List ℕ → Step → Type 0
-StepIn b m step = StepWithin (parse b) m step
+-- the same in a message that is read
+abbrev pub StepIn : Reading → Step → Type 0
+StepIn r step = StepWithin (parsed r.schema) r.message.now step
 
-abbrev pub FoundIn : ℕ → List ℕ → List ℕ → Found → Type 0
-FoundIn o b m f = FoundWithin o (parse b) m f
+abbrev pub FoundIn : Reading → Found → Type 0
+FoundIn r f = FoundWithin r.schema.width (parsed r.schema) r.message.now f
+
+-- a value that was found takes eight bytes at most
+abbrev pub FlatShort : Flat → Type 0
+FlatShort F.Boolean = Unit {0}
+FlatShort (F.Integer s w) = w ≤ 8
+FlatShort (F.Float w) = w ≤ 8
+FlatShort (F.Enumerated n) = Unit {0}
+FlatShort (F.Struct i) = Unit {0}
+
+abbrev pub KindShort : Kind → Type 0
+KindShort (OfFlat k) = FlatShort k
+KindShort (OfObject ob) = Unit {0}
+KindShort (OfUnion u) = Unit {0}
+
+abbrev pub FoundShort : Found → Type 0
+FoundShort (Fd.Refused r) = Unit {0}
+FoundShort Fd.Absent = Unit {0}
+FoundShort (Fd.Unknown x) = Unit {0}
+FoundShort (Fd.Value k x holder) = KindShort k
+FoundShort (Fd.Struct i at holder) = Unit {0}
+FoundShort (Fd.Object ob at start n d) = Unit {0}
+
+flat_short : (n : ℕ) (k : Flat) → FlatSound n k → FlatShort k
+flat_short n F.Boolean s = tt
+flat_short n (F.Integer g w) s = s.1
+flat_short n (F.Float w) s = ⊎_elim (λ e. omega arith) (λ e. omega arith) s
+flat_short n (F.Enumerated c) s = tt
+flat_short n (F.Struct i) s = tt
+
+kind_short : (S : Schema) (k : Kind) → KindSound S k → KindShort k
+kind_short S (OfFlat k) s = flat_short (length S.structs) k s
+kind_short S (OfObject ob) s = tt
+kind_short S (OfUnion u) s = tt
+
+pub within_short : (o : ℕ) (S : Schema) (m : List ℕ) (f : Found) → FoundWithin o S m f → FoundShort f
+within_short o S m (Fd.Refused r) h = tt
+within_short o S m Fd.Absent h = tt
+within_short o S m (Fd.Unknown x) h = tt
+within_short o S m (Fd.Value k x holder) h = kind_short S k h
+within_short o S m (Fd.Struct i at holder) h = tt
+within_short o S m (Fd.Object ob at start n d) h = tt

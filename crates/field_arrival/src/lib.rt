@@ -3,21 +3,20 @@
 
 ghost use Rattle.std.specs.Prelude.{◌≡◌};
 ghost use Rattle.coding.specs.Field as F;
-ghost use Rattle.coding.specs.Packed as P;
 ghost use Rattle.coding.specs.Walk as W;
 ghost use Rattle.laws.specs.Sound.{ObjectSound};
-ghost use Rattle.schema.specs.Directory.{Accepted};
 ghost use Rattle.message_step.specs.Lead as D;
-ghost use Rattle.wire.specs.Sizes.{Width};
 ghost use Rattle.field_arrival.specs.Within.{StepIn};
 ghost use Rattle.field_arrival.specs.Parts.{arrived_by, chosen_by, stepped_by};
+ghost use Rattle.schema.specs.Parsed.{parsed};
 
-use coding::{Found, Kind, Object, Opened, Place, Refusal, Step};
+use coding::{Found, Kind, Object, Place, Refusal, Step};
+use schema::Reading;
 
-// The content of an object that a path has come to: the object's place, where its content starts, its length, and how many
-// objects of depth are left below it.
+// An object that a path has come to: its place, where its content starts, its length, and how many objects of depth are left
+// below it.
 #[derive(Clone, Copy)]
-pub struct Content {
+pub struct Arrival {
     pub place: usize,
     pub start: usize,
     pub length: usize,
@@ -34,76 +33,81 @@ pub struct Part {
     pub left: usize,
 }
 
-// ---- arrivals
-// The refusal n at a place, about no member.
-pub fn refuse(n: u8, at: usize) -> Found
-    ensures { result ≡ Found.Refused (W.refusal n at) }
+// ---- refusals
+// The refusal of a number at a place, about no member.
+#[tactic(auto, unfolding(coding::specs::Walk::no_member))]
+pub fn refusal(number: u8, place: usize) -> Refusal
+    ensures { result ≡ W.refusal number place }
 {
-    let why = Refusal {
-        number: n,
-        place: at,
+    Refusal {
+        number,
+        place,
         member: wire::NO_MEMBER,
-    };
-    Found::Refused(why)
+    }
 }
 
-// The refusal n of part j of the object at `holder`.
-fn refuse_part(n: u8, holder: usize, j: u32) -> Found
-    ensures { result ≡ F.part_refused n holder j }
+// The same as what a path has come to.
+pub fn refuse(number: u8, place: usize) -> Found
+    ensures { result ≡ Found.Refused (W.refusal number place) }
 {
-    let why = Refusal {
-        number: n,
-        place: holder,
-        member: j,
-    };
-    Found::Refused(why)
+    Found::Refused(refusal(number, place))
 }
 
+// The refusal of a number of a part of the object at `place`.
+#[tactic(auto, unfolding(coding::specs::Field::part_refused))]
+fn refuse_part(number: u8, place: usize, member: u32) -> Found
+    ensures { result ≡ F.part_refused number place member }
+{
+    Found::Refused(Refusal {
+        number,
+        place,
+        member,
+    })
+}
+
+// ---- arrivals
 // An arrival at an object with d objects of depth left, this one counted.
-pub fn arrive(b: &[u8], dir: &[u16], m: &[u8], d: usize, ob: Object, p: Place, o: usize) -> Found
-    requires { (Accepted b.now dir.now) × (Width o) × (ObjectSound (P.parse b.now) ob) × D.PlaceSmall p }
-    ensures { result ≡ arrived_by o b.now m.now d ob p }
+#[tactic(auto, unfolding(coding::specs::Field::arrived, coding::specs::Field::opened))]
+pub fn arrive(reading: &Reading, d: usize, ob: Object, p: Place) -> Found
+    requires { (ObjectSound (parsed reading.now.schema) ob) × D.PlaceSmall p }
+    ensures { result ≡ arrived_by reading.now d ob p }
 {
     let at = message_object::placed(p);
     if d == 0 {
         return refuse(5, at);
     }
-    match message_object::open_object(b, dir, m, ob, p, o) {
-        Opened::Refused(e) => refuse(e, at),
-        Opened::Content(start, n) => Found::Object(ob, at, start, n, d - 1),
+    match message_object::open_object(reading, ob, p) {
+        Err(e) => refuse(e, at),
+        Ok(content) => Found::Object(ob, at, content.start, content.length, d - 1),
     }
 }
 
 // The object of the known choice of a union that is a part.
-fn choose(b: &[u8], dir: &[u16], m: &[u8], part: Part, ob: Object, p: Place, o: usize) -> Found
-    requires { (Accepted b.now dir.now) × (Width o) × (ObjectSound (P.parse b.now) ob) × D.PlaceSmall p }
-    ensures { result ≡ chosen_by o b.now m.now part ob p }
+#[tactic(auto, unfolding(coding::specs::Field::chosen))]
+fn choose(reading: &Reading, part: Part, ob: Object, p: Place) -> Found
+    requires { (ObjectSound (parsed reading.now.schema) ob) × D.PlaceSmall p }
+    ensures { result ≡ chosen_by reading.now part ob p }
 {
     match p {
-        Place::ByOffset(x) => {
-            if x == 0 {
-                return refuse_part(9, part.holder, part.number);
-            }
-            arrive(b, dir, m, part.left, ob, Place::ByOffset(x), o)
-        }
-        Place::InPlace(a, n) => arrive(b, dir, m, part.left, ob, Place::InPlace(a, n), o),
+        Place::ByOffset(0) => refuse_part(9, part.holder, part.number),
+        Place::ByOffset(_) | Place::InPlace(_, _) => arrive(reading, part.left, ob, p),
     }
 }
 
 // ---- what a step finds
 // What the step of a part finds.
-pub fn follow(b: &[u8], dir: &[u16], m: &[u8], part: Part, step: Step, o: usize) -> Found
-    requires { (Accepted b.now dir.now) × (Width o) × StepIn b.now m.now step }
-    ensures { result ≡ stepped_by o b.now m.now part step }
+#[tactic(auto, unfolding(coding::specs::Field::stepped))]
+pub fn follow(reading: &Reading, part: Part, step: Step) -> Found
+    requires { StepIn reading.now step }
+    ensures { result ≡ stepped_by reading.now part step }
 {
-    let kind = part.kind;
     match step {
         Step::Refused(e) => refuse_part(e, part.holder, part.number),
         Step::Absent => Found::Absent,
-        Step::Value(x) => Found::Value(kind, x, part.holder),
+        Step::Value(x) => Found::Value(part.kind, x, part.holder),
         Step::Unknown(x) => Found::Unknown(x),
         Step::Struct(i, at) => Found::Struct(i, at, part.holder),
-        Step::Object(ob, p) => arrive(b, dir, m, part.left, ob, p, o),
-        Step::Choice(_, ob, p) => choose(b, dir, m, part, ob, p, o),
+        Step::Object(ob, p) => arrive(reading, part.left, ob, p),
+        Step::Choice(_, ob, p) => choose(reading, part, ob, p),
     }
 }

@@ -1,3 +1,2 @@
-pub mod ReaderCases
-pub mod GivesCases
-pub mod StepCases
+pub mod ElementCases
+pub mod StartCases

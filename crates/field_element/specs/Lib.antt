@@ -1,2 +1,3 @@
--- What a list reader starts from, and the answer of an element that is an offset.
+-- The list that a list reader goes over, and what its steps answer.
+pub mod Elements
 pub mod Listed

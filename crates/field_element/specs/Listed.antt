@@ -1,32 +1,42 @@
--- What a list reader starts from, and the answer of an element that is an offset.
-use Rattle.std.specs.Prelude.{ℕ, List, eqb}
-use Rattle.coding.specs.Lists.{pick}
-use Rattle.coding.specs.Schema.{Schema}
-use Rattle.coding.specs.Field.{answer_of, arrived}
+-- What a list reader starts from, what its steps answer, and how many elements it has.
+use Rattle.std.specs.Prelude.{◌≡◌, ℕ, List, Result, Ok, Err}
+use Rattle.coding.specs.Field as Field
 use Rattle.coding.specs.declared.Object.{Object}
-use Rattle.coding.specs.declared.Object.TheVariants as O
-use Rattle.coding.specs.declared.Place.TheVariants.{ByOffset}
 use Rattle.coding.specs.declared.Found.{Found}
 use Rattle.coding.specs.declared.Found.TheVariants as Fd
+use Rattle.coding.specs.declared.Refusal.{Refusal}
 use Rattle.coding.specs.declared.Answer.{Answer}
 use Rattle.coding.specs.declared.Answer.TheVariants as A
+use Rattle.schema.specs.Parsed.{bytes_of}
+use Rattle.field_arrival.specs.declared.Arrival.{Arrival}
+use Rattle.field_arrival.specs.Parts.{object_part_by}
+use Rattle.field_element.specs.declared.list.ListAt.{ListAt}
+use Rattle.field_element.specs.Elements.{object_of}
 
--- what a list reader starts from: a list, a direct list, or a refusal
-abbrev pub Listed : Object → Type 0
-Listed O.Text = ⊥
-Listed O.Bytes = ⊥
-Listed (O.List i) = Unit {0}
-Listed (O.Table i) = ⊥
-Listed (O.DirectList t) = Unit {0}
+-- an object that was come to
+abbrev pub object_found : Object → Arrival → Found
+object_found ob a = Fd.Object ob a.place a.start a.length a.left
 
-abbrev pub Reads : Found → Type 0
-Reads (Fd.Refused r) = Unit {0}
-Reads Fd.Absent = ⊥
-Reads (Fd.Unknown x) = ⊥
-Reads (Fd.Value k x holder) = ⊥
-Reads (Fd.Struct i at holder) = ⊥
-Reads (Fd.Object ob at start n d) = Listed ob
+-- what the definitions say of the list that a reader goes over, or of the refusal of its start
+abbrev pub found_of : Result ListAt Refusal → Found
+found_of (Err r) = Fd.Refused r
+found_of (Ok l) = object_found (object_of l.elements) l.arrival
 
--- the answer of an element that is an offset, with d objects of depth left below its list
-unfoldable pub offset_gives : ℕ → ℕ → Schema → List ℕ → Object → ℕ → Answer
-offset_gives d o S m ob x = pick (eqb x 0) A.Absent (answer_of (arrived d o S m ob (ByOffset x)))
+-- the list is of the message m, read by the schema in bytes b under the coding of width o
+abbrev pub OfMessage : ℕ → List ℕ → List ℕ → Result ListAt Refusal → Type 0
+OfMessage o b m (Err r) = Unit {0}
+OfMessage o b m (Ok l) = (l.reading.schema.width ≡ o) × (bytes_of l.reading.schema ≡ b) × (l.reading.message.now ≡ m)
+
+-- what a reader starts from, by its path
+pub record Starts (o : ℕ) (b m path : List ℕ) (h : Result ListAt Refusal) : Type 0 where
+  pub found : found_of h ≡ Field.reader_start o b m path
+  pub of_message : OfMessage o b m h
+
+-- the answer of the step at element j, and how many elements there are
+abbrev pub gives : Result ListAt Refusal → ℕ → Answer
+gives (Err r) j = A.Refused r
+gives (Ok l) j = Field.answer_of (object_part_by l.reading (object_of l.elements) l.arrival j)
+
+abbrev pub count : Result ListAt Refusal → ℕ
+count (Err r) = 0
+count (Ok l) = l.arrival.length

@@ -1,219 +1,141 @@
 // The list reader's start and one step of it: the list that a path leads to, and the answer at one of its elements.
 #![tactic(auto)]
 
-ghost use Rattle.std.specs.Prelude.{◌≡◌, ◌+◌, ◌*◌, ◌<◌, ◌≤◌, ◌^◌, length};
-ghost use Rattle.coding.specs.Bytes as B;
+ghost use Rattle.std.specs.Prelude.{◌≡◌, length};
 ghost use Rattle.coding.specs.Field as F;
-ghost use Rattle.coding.specs.Packed as P;
 ghost use Rattle.coding.specs.Positions as Po;
-ghost use Rattle.coding.specs.Schema as Sc;
-ghost use Rattle.coding.specs.Step as T;
-ghost use Rattle.coding.specs.Walk as W;
 ghost use Rattle.laws.specs.Sound.{ObjectSound};
-ghost use Rattle.schema.specs.Directory.{Accepted, AcceptedUnder};
-ghost use Rattle.field_arrival.specs.Within.{Readable, FoundIn};
-ghost use Rattle.field_arrival.specs.Parts.{arrived_by, object_part_by};
-ghost use Rattle.field_element.specs.Listed.{Listed, Reads, offset_gives};
-ghost use Rattle.wire.specs.Sizes.{Width, HasOffset};
+ghost use Rattle.field_arrival.specs.Within.{FoundIn, FoundShort, FoundWithin};
+ghost use Rattle.field_arrival.specs.Parts.{object_part_by};
+ghost use Rattle.field_element.specs.Elements as E;
+ghost use Rattle.field_element.specs.Listed.{OfMessage, Starts, object_found, found_of, gives, count};
+ghost use Rattle.schema.specs.Parsed.{parsed, bytes_of};
 
-use coding::{Answer, Found, Kind, Object, Opened, Place};
-use field_arrival::Content;
+use coding::{Answer, Found, Kind, Object, Refusal};
+use field_arrival::Arrival;
+use positions::Indexed;
+use schema::{Reading, Schema};
+
+pub mod list;
+
+pub use list::{Elements, ListAt};
 
 // ---- the list
 // Whether elements of a kind lead to objects.
+#[tactic(auto, unfolding(coding::specs::Field::leads))]
 fn leads(k: Kind) -> bool
     ensures { result ≡ F.leads k }
 {
     match k {
         Kind::OfFlat(_) => false,
-        Kind::OfObject(_) => true,
-        Kind::OfUnion(_) => true,
+        Kind::OfObject(_) | Kind::OfUnion(_) => true,
     }
 }
 
-// The object, if it is a list whose elements lead to objects, or a direct list; otherwise the refusal 15 at 0.
-fn list_of(b: &[u8], dir: &[u16], ob: Object, c: Content) -> Found
-    requires { (Accepted b.now dir.now) × ObjectSound (P.parse b.now) ob }
-    ensures { result ≡ F.list_found (P.parse b.now) ob c.place c.start c.length c.left }
+// The elements of an object, if it is a list whose elements lead to objects, or a direct list.
+fn elements_of(schema: &Schema, ob: Object) -> Option<Elements>
+    requires { ObjectSound (parsed schema.now) ob }
+    ensures { result ≡ E.elements_of (parsed schema.now) ob }
 {
     match ob {
-        Object::Text => field_arrival::refuse(15, 0),
-        Object::Bytes => field_arrival::refuse(15, 0),
         Object::List(i) => {
-            if leads(schema::element(b, dir, wire::index(i))) {
-                return Found::Object(Object::List(i), c.place, c.start, c.length, c.left);
+            if leads(schema.packed.element(usize::from(i))) {
+                return Some(Elements::List(i));
             }
-            field_arrival::refuse(15, 0)
+            None
         }
-        Object::Table(_) => field_arrival::refuse(15, 0),
-        Object::DirectList(t) => {
-            Found::Object(Object::DirectList(t), c.place, c.start, c.length, c.left)
-        }
+        Object::DirectList(t) => Some(Elements::Direct(t)),
+        Object::Text | Object::Bytes | Object::Table(_) => None,
     }
 }
 
-// What a reader starts from, by what its path comes to.
-fn reader_of(b: &[u8], dir: &[u16], m: &[u8], f: Found, o: usize) -> Found
-    requires { (Accepted b.now dir.now) × FoundIn o b.now m.now f }
-    ensures { (result ≡ F.reader_of (P.parse b.now) f) × FoundIn o b.now m.now result }
+// The list that an object is, if a reader goes over it; otherwise the refusal 15 at 0.
+fn list_of<'a>(reading: &Reading<'a>, ob: Object, arrival: Arrival) -> Result<ListAt<'a>, Refusal>
+    requires { FoundIn reading.now (object_found ob arrival) }
+    ensures { (found_of result ≡ F.list_found (parsed reading.now.schema) ob arrival.place arrival.start arrival.length arrival.left) × OfMessage reading.now.schema.width (bytes_of reading.now.schema) reading.now.message.now result }
+{
+    match elements_of(&reading.schema, ob) {
+        Some(elements) => Ok(ListAt {
+            reading: *reading,
+            elements,
+            arrival,
+        }),
+        None => Err(field_arrival::refusal(15, 0)),
+    }
+}
+
+// What a reader starts from, by what its path comes to: of no list, the path's own refusal, or 15 at 0.
+#[tactic(auto, unfolding(coding::specs::Field::reader_of, coding::specs::Field::before))]
+fn reader_of<'a>(schema: &Schema<'a>, m: &'a [u8], f: Found) -> Result<ListAt<'a>, Refusal>
+    requires { FoundWithin schema.now.width (parsed schema.now) m.now f }
+    ensures { (found_of result ≡ F.reader_of (parsed schema.now) f) × OfMessage schema.now.width (bytes_of schema.now) m.now result }
 {
     match f {
-        Found::Refused(x) => Found::Refused(x),
-        Found::Absent => field_arrival::refuse(15, 0),
-        Found::Unknown(_) => field_arrival::refuse(15, 0),
-        Found::Value(_, _, _) => field_arrival::refuse(15, 0),
-        Found::Struct(_, _, _) => field_arrival::refuse(15, 0),
+        Found::Refused(why) => Err(why),
+        Found::Absent | Found::Unknown(_) | Found::Value(_, _, _) | Found::Struct(_, _, _) => {
+            Err(field_arrival::refusal(15, 0))
+        }
         Found::Object(ob, place, start, length, left) => {
-            let c = Content {
+            let arrival = Arrival {
                 place,
                 start,
                 length,
                 left,
             };
-            list_of(b, dir, ob, c)
+            let reading = Reading {
+                schema: *schema,
+                message: m,
+            };
+            list_of(&reading, ob, arrival)
         }
     }
 }
 
-// The list that a reader goes over, or why there is none, by a schema and its table of positions that were judged before.
-pub fn reader_by(b: &[u8], rows: &[u8], dir: &[u16], m: &[u8], path: &[u32], o: usize) -> Found
-    requires { (AcceptedUnder o b.now dir.now) × (rows.now ≡ Po.positions_of o b.now) }
-    ensures { (result ≡ F.reader_start o b.now m.now path.now) × (FoundIn o b.now m.now result) × Reads result }
+// The list that a reader goes over, or why there is none, by a schema with its table of positions.
+fn reader_by<'a>(indexed: &Indexed<'a>, m: &'a [u8], path: &[u32]) -> Result<ListAt<'a>, Refusal>
+    ensures { Starts indexed.now.schema.width (bytes_of indexed.now.schema) m.now path.now result }
 {
-    let f = field_path::found_by(b, rows, dir, m, path, o);
-    reader_of(b, dir, m, f, o)
+    let found = field_path::found_by(indexed, m, path);
+    reader_of(&indexed.schema, m, found)
+}
+
+// The same of any message by any schema with any table of positions. `directory` is the room for where everything in the schema
+// stands.
+pub fn reader_start<'a>(
+    b: &'a [u8],
+    rows: &'a [u8],
+    m: &'a [u8],
+    path: &[u32],
+    directory: &'a mut [u16],
+    o: usize,
+) -> Result<ListAt<'a>, Refusal>
+    requires { length directory.old ≡ 384 }
+    ensures { Starts o (Po.with_table o b.now rows.now) m.now path.now result }
+{
+    match positions::judge_schema(b, rows, directory, o) {
+        Some(indexed) => reader_by(&indexed, m, path),
+        None => Err(field_arrival::refusal(1, 0)),
+    }
 }
 
 // ---- the answer at an element
-// The answer of an arrival at an object by its offset, with d objects of depth left, this one counted.
-fn arrive_answer(
-    b: &[u8],
-    dir: &[u16],
-    m: &[u8],
-    d: usize,
-    ob: Object,
-    x: usize,
-    o: usize,
-) -> Answer
-    requires { (Accepted b.now dir.now) × (Width o) × (ObjectSound (P.parse b.now) ob) × (x < 2 ^ 48) }
-    ensures { result ≡ F.answer_of (arrived_by o b.now m.now d ob (Place.ByOffset x)) }
+// What stands at element j of a list.
+fn element_at(list: &ListAt, j: usize) -> Found
+    ensures { (result ≡ object_part_by list.now.reading (E.object_of list.now.elements) list.now.arrival j) × FoundShort result }
 {
-    if d == 0 {
-        return field::refused(5, x);
-    }
-    match message_object::open_object(b, dir, m, ob, Place::ByOffset(x), o) {
-        Opened::Refused(e) => field::refused(e, x),
-        Opened::Content(_, n) => Answer::Object(field::record_kind(ob), x, n),
-    }
-}
-
-// The answer of an element that is the offset at a place of the message.
-fn offset_answer(
-    b: &[u8],
-    dir: &[u16],
-    m: &[u8],
-    d: usize,
-    ob: Object,
-    at: usize,
-    o: usize,
-) -> Answer
-    requires { (Accepted b.now dir.now) × (Width o) × (ObjectSound (P.parse b.now) ob) × (Readable m.now) × (HasOffset o m.now at) }
-    ensures { result ≡ offset_gives d o (P.parse b.now) m.now ob (B.le m.now at o) }
-{
-    let x = wire::offset_in(m, at, o);
-    if x == 0 {
-        return Answer::Absent;
-    }
-    arrive_answer(b, dir, m, d, ob, x, o)
-}
-
-// The answer of element j of a list, whatever its kind is.
-fn part_answer(b: &[u8], dir: &[u16], m: &[u8], i: usize, c: Content, j: usize, o: usize) -> Answer
-    requires accepted { (Accepted b.now dir.now) × (Width o) × (Readable m.now) × (i < P.list_count b.now) }
-    requires length_in_bounds { c.start + T.elements_size o (P.parse b.now) (Sc.element_of (P.parse b.now) i) c.length ≤ length m.now }
-    ensures { result ≡ F.answer_of (object_part_by o b.now m.now (Object.List i) c j) }
-{
-    let f = field_part::list_part(b, dir, m, i, c, j, o);
-    field::answer_of(b, m, f, o)
-}
-
-// The answer of element j of a list of index i in the schema; an offset is followed at once.
-fn element_answer(
-    b: &[u8],
-    dir: &[u16],
-    m: &[u8],
-    i: usize,
-    c: Content,
-    j: usize,
-    o: usize,
-) -> Answer
-    requires accepted { (Accepted b.now dir.now) × (Width o) × (Readable m.now) × (i < P.list_count b.now) }
-    requires length_in_bounds { c.start + T.elements_size o (P.parse b.now) (Sc.element_of (P.parse b.now) i) c.length ≤ length m.now }
-    ensures { result ≡ F.answer_of (object_part_by o b.now m.now (Object.List i) c j) }
-{
-    if c.length <= j {
-        return field::refused(15, c.place);
-    }
-    match schema::element(b, dir, i) {
-        Kind::OfFlat(_) => part_answer(b, dir, m, i, c, j, o),
-        Kind::OfObject(ob) => { offset_answer(b, dir, m, c.left, ob, c.start + o * j, o) }
-        Kind::OfUnion(_) => part_answer(b, dir, m, i, c, j, o),
-    }
-}
-
-// The answer of element j of a direct list of table t.
-fn direct_answer(b: &[u8], dir: &[u16], m: &[u8], t: u8, c: Content, j: usize, o: usize) -> Answer
-    requires accepted { (Accepted b.now dir.now) × (Width o) × (Readable m.now) × (ObjectSound (P.parse b.now) (Object.Table t)) × (c.place < 2 ^ 60) }
-    requires place_in_bounds { c.start + c.length * W.element_size o m.now c.place ≤ length m.now }
-    ensures { result ≡ F.answer_of (object_part_by o b.now m.now (Object.DirectList t) c j) }
-{
-    let f = field_part::direct_part(b, dir, m, t, c, j, o);
-    field::answer_of(b, m, f, o)
-}
-
-// The answer of the step at element j of an object that is a list.
-fn list_answer(
-    b: &[u8],
-    dir: &[u16],
-    m: &[u8],
-    ob: Object,
-    c: Content,
-    j: usize,
-    o: usize,
-) -> Answer
-    requires accepted { (Accepted b.now dir.now) × (Width o) × (Readable m.now) × (ObjectSound (P.parse b.now) ob) × (Listed ob) × (c.place < 2 ^ 60) }
-    requires length_in_bounds { c.start + W.content_size o (P.parse b.now) m.now ob c.place c.length ≤ length m.now }
-    ensures { result ≡ F.answer_of (object_part_by o b.now m.now ob c j) }
-{
-    match ob {
-        Object::Text => Answer::Absent,
-        Object::Bytes => Answer::Absent,
-        Object::List(i) => element_answer(b, dir, m, wire::index(i), c, j, o),
-        Object::Table(_) => Answer::Absent,
-        Object::DirectList(t) => direct_answer(b, dir, m, t, c, j, o),
+    match list.elements {
+        Elements::List(i) => field_part::list_part(&list.reading, usize::from(i), list.arrival, j),
+        Elements::Direct(t) => field_part::direct_part(&list.reading, t, list.arrival, j),
     }
 }
 
 // The answer of the step at element j of the list that a reader goes over, or the refusal that stands for it.
-pub fn step_answer(b: &[u8], dir: &[u16], m: &[u8], list: Found, j: usize, o: usize) -> Answer
-    requires { (Accepted b.now dir.now) × (Width o) × (FoundIn o b.now m.now list) × (Reads list) }
-    ensures { result ≡ F.list_gives o (P.parse b.now) m.now list j }
+pub fn step_answer(list: &Result<ListAt, Refusal>, j: usize) -> Answer
+    ensures { result ≡ gives list.now j }
 {
     match list {
-        Found::Refused(x) => Answer::Refused(x),
-        Found::Absent => Answer::Absent,
-        Found::Unknown(x) => Answer::Unknown(x),
-        Found::Value(_, _, _) => Answer::Absent,
-        Found::Struct(_, _, _) => Answer::Absent,
-        Found::Object(ob, place, start, length, left) => {
-            let c = Content {
-                place,
-                start,
-                length,
-                left,
-            };
-            list_answer(b, dir, m, ob, c, j, o)
-        }
+        Ok(list) => field::answer_of(element_at(list, j)),
+        Err(why) => Answer::Refused(*why),
     }
 }
 
@@ -226,48 +148,22 @@ pub struct ListStep {
 }
 
 // How many elements a reader's list has; none where there is no list.
-pub fn list_count(list: Found) -> usize
-    ensures { result ≡ F.list_count list }
+pub fn list_count(list: &Result<ListAt, Refusal>) -> usize
+    ensures { result ≡ count list.now }
 {
     match list {
-        Found::Refused(_) => 0,
-        Found::Absent => 0,
-        Found::Unknown(_) => 0,
-        Found::Value(_, _, _) => 0,
-        Found::Struct(_, _, _) => 0,
-        Found::Object(_, _, _, n, _) => n,
+        Ok(list) => list.arrival.length,
+        Err(_) => 0,
     }
 }
 
 // Where the reader of a list of n elements stands after the step at element j: at the next element, or where it was if that
 // step was after the last.
+#[tactic(auto, unfolding(coding::specs::Field::reader_next))]
 pub fn reader_next(n: usize, j: usize) -> usize
     ensures { result ≡ F.reader_next n j }
 {
-    if j < n {
-        return j + 1;
-    }
-    j
-}
-
-// The step at element j, by a schema and its table of positions that were judged before.
-fn step_by(
-    b: &[u8],
-    rows: &[u8],
-    dir: &[u16],
-    m: &[u8],
-    path: &[u32],
-    j: usize,
-    o: usize,
-) -> ListStep
-    requires { (AcceptedUnder o b.now dir.now) × (rows.now ≡ Po.positions_of o b.now) }
-    ensures { (result.answer ≡ F.reader_gives o b.now m.now path.now j) × (result.next ≡ F.reader_next (F.reader_count o b.now m.now path.now) j) }
-{
-    let list = reader_by(b, rows, dir, m, path, o);
-    ListStep {
-        answer: step_answer(b, dir, m, list, j, o),
-        next: reader_next(list_count(list), j),
-    }
+    if j < n { j + 1 } else { j }
 }
 
 // The step at element j of the list that a path leads to, of any message by any schema with any table of
@@ -275,12 +171,10 @@ fn step_by(
 pub fn step(b: &[u8], rows: &[u8], m: &[u8], path: &[u32], j: usize, o: usize) -> ListStep
     ensures { (result.answer ≡ F.reader_gives o (Po.with_table o b.now rows.now) m.now path.now j) × (result.next ≡ F.reader_next (F.reader_count o (Po.with_table o b.now rows.now) m.now path.now) j) }
 {
-    let mut dir: [u16; 384] = [0; 384];
-    if positions::judge_schema(b, rows, &mut dir, o) {
-        return step_by(b, rows, &dir, m, path, j, o);
-    }
+    let mut directory: [u16; schema::DIRECTORY] = [0; schema::DIRECTORY];
+    let list = reader_start(b, rows, m, path, &mut directory, o);
     ListStep {
-        answer: field::refused(1, 0),
-        next: j,
+        answer: step_answer(&list, j),
+        next: reader_next(list_count(&list), j),
     }
 }

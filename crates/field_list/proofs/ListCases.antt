@@ -1,9 +1,11 @@
 -- The ways out of many steps of a list reader: what the loop stores, and what a refused reader gives.
+use Rattle.std.specs.Prelude.{Result}
 use mathlib.Core.Path.{◌≡◌, refl, sym, ap, ◌∙◌}
 use mathlib.Core.Bool.{Bool, true, false}
 use mathlib.Core.List.{List, [], ◌∷◌, ◌++◌, append_assoc}
 use Prim.Native.Nat.{ℕ, zero, suc, ◌+◌, ◌*◌, ◌-◌, ◌/◌, ◌<◌, ◌≤◌}
 use native.Mathlib.Omega.{arith}
+use borrow.Rule.Slice.PartMut.{post_of, put_mid, Post-is}
 use lib.ListN.{length, set, take, drop, length-append, take-append-drop}
 use lib.Seq.{length-take-le, take_at, drop-append-add, drop-drop, sets-eq}
 use Rattle.coding.specs.Packed as P
@@ -15,10 +17,11 @@ use Rattle.coding.specs.declared.Found.{Found}
 use Rattle.coding.specs.declared.Answer.{Answer}
 use Rattle.coding.specs.declared.Case.{Case}
 use Rattle.coding.specs.declared.Answer.TheVariants as A
-use Rattle.positions.specs.Lent.{lent_is}
-use Rattle.positions.specs.Rows.{TableJudged}
-use Rattle.field_list.specs.Stepping.{always, steps_left}
-use Rattle.field_element.proofs.StepCases.{answer-unlawful, count-unlawful, next_none}
+use Rattle.coding.specs.declared.Refusal.{Refusal}
+use Rattle.field_element.specs.declared.list.ListAt.{ListAt}
+use Rattle.field_element.specs.Listed.{Starts, gives, count}
+use Rattle.field_element.proofs.StartCases.{starts-gives, starts-count}
+use Rattle.field_list.specs.Stepping.{steps_left}
 
 -- ---- the loop
 -- what stands before a store's end and behind it
@@ -88,57 +91,32 @@ module _ (gives : ℕ → Answer) (n : ℕ) where
       ∙ ap (λ (y : ℕ). take (4 * i) out ++ ((case_numbers (answer_case (gives j)) ++ step_numbers gives n y (steps - (i + 1))) ++ drop (4 * steps) out)) ek
       ∙ ap (λ (y : ℕ). take (4 * i) out ++ (step_numbers gives n j y ++ drop (4 * steps) out)) (sym a)
 
--- ---- four stores
-pub put_four : (out : List ℕ) (at : ℕ) → at + 4 ≤ length out → (x : Case)
-    → set (set (set (set out at x.case) (at + 1) x.a) (at + 2) x.b) (at + 3) x.c ≡ take at out ++ (case_numbers x ++ drop (at + 4) out)
+-- ---- four numbers, stored
+pub put_four : (out ys : List ℕ) (at : ℕ) (x : Case) (v : ℕ) → v ≡ x.case → ys ≡ v ∷ x.a ∷ x.b ∷ x.c ∷ []
+    → put_mid at (at + 4 - at) out ys ≡ take at out ++ (case_numbers x ++ drop (at + 4) out)
 unfolding case_numbers
-put_four out at h x =
-    let e : at + 1 ≡ suc at = omega arith in
-    let f : at + 2 ≡ suc (suc at) = omega arith in
-    let g : at + 3 ≡ suc (suc (suc at)) = omega arith in
-    let ns = x.case ∷ x.a ∷ x.b ∷ x.c ∷ [] in
-    ap (λ (k : ℕ). set (set (set (set out at x.case) k x.a) (at + 2) x.b) (at + 3) x.c) e
-    ∙ ap (λ (k : ℕ). set (set (set (set out at x.case) (suc at) x.a) k x.b) (at + 3) x.c) f
-    ∙ ap (λ (k : ℕ). set (set (set (set out at x.case) (suc at) x.a) (suc (suc at)) x.b) k x.c) g
-    ∙ sets-eq ns out at h
-    ∙ append_assoc (take at out) ns (drop (at + 4) out)
+put_four out ys at x v ev e =
+    let w : at ≤ at + 4 = omega arith in
+    ap (λ (ns : List ℕ). take at out ++ (ns ++ post_of at (at + 4 - at) out)) (e ∙ ap (λ (n : ℕ). n ∷ x.a ∷ x.b ∷ x.c ∷ []) ev)
+    ∙ ap (λ (t : List ℕ). take at out ++ ((x.case ∷ x.a ∷ x.b ∷ x.c ∷ []) ++ t)) (Post-is at (at + 4) out w)
 
--- ---- a refused reader
--- where a step at the first element gives q, and the reader does not move, every step does
-module _ (gives : ℕ → Answer) (q : Answer) (j : ℕ) (e : q ≡ gives j) where
-  same_steps : (k : ℕ) → step_numbers (always q) 0 0 k ≡ step_numbers gives 0 j k
-  unfolding step_numbers always reader_next
-  same_steps zero = refl
-  same_steps (suc k) =
-      ap (λ (y : Answer). case_numbers (answer_case y) ++ step_numbers (always q) 0 0 k) e
-      ∙ ap (λ (t : List ℕ). case_numbers (answer_case (gives j)) ++ t) (same_steps k)
-      ∙ ap (λ (x : ℕ). case_numbers (answer_case (gives j)) ++ step_numbers gives 0 x k) (next_none j)
+-- ---- two readers that answer alike
+module _ (gives other : ℕ → Answer) (n : ℕ) (alike : (j : ℕ) → gives j ≡ other j) where
+  alike_steps : (j k : ℕ) → step_numbers gives n j k ≡ step_numbers other n j k
+  unfolding step_numbers
+  alike_steps j zero = refl
+  alike_steps j (suc k) =
+      ap (λ (y : Answer). case_numbers (answer_case y) ++ step_numbers gives n (reader_next n j) k) (alike j)
+      ∙ ap (λ (t : List ℕ). case_numbers (answer_case (other j)) ++ t) (alike_steps (reader_next n j) k)
 
-  pub same_over : (out : List ℕ) → steps_over (always q) 0 0 out ≡ steps_over gives 0 j out
+  pub alike_over : (j : ℕ) (out : List ℕ) → steps_over gives n j out ≡ steps_over other n j out
   unfolding steps_over
-  same_over out = ap (λ (t : List ℕ). t ++ drop (4 * (length out / 4)) out) (same_steps (length out / 4))
+  alike_over j out = ap (λ (t : List ℕ). t ++ drop (4 * (length out / 4)) out) (alike_steps j (length out / 4))
 
-over_refused : (o : ℕ) (b m path : List ℕ) (q : Answer) (j : ℕ) → q ≡ Field.reader_gives o b m path j → 0 ≡ Field.reader_count o b m path
-    → (out : List ℕ) → steps_over (always q) 0 0 out ≡ Field.reader_over o b m path j out
+-- what the reader of a path stores, by what it starts from
+pub over-starts : (o : ℕ) (b m path : List ℕ) (h : Result ListAt Refusal) → Starts o b m path h → (j : ℕ) (out out' : List ℕ)
+    → out' ≡ steps_over (gives h) (count h) j out → out' ≡ Field.reader_over o b m path j out
 unfolding Field.reader_over
-over_refused o b m path q j e none out =
-    same_over (Field.reader_gives o b m path) q j e out ∙ ap (λ (n : ℕ). steps_over (Field.reader_gives o b m path) n j out) none
-
--- of a schema with the table that was handed in
-module _ (o : ℕ) (b rows dir m path : List ℕ) (t : Bool) (u : TableJudged o b rows dir t) (j : ℕ) (out out' : List ℕ) where
-  pub over-lent : t ≡ true → out' ≡ Field.reader_over o b m path j out → out' ≡ Field.reader_over o (with_table o b rows) m path j out
-  over-lent f e = lent_is o b rows dir t u f (λ (s : List ℕ). Field.reader_over o s m path j out) out' e
-
-  pub over-unlawful : t ≡ false → (q : Answer) → q ≡ A.Refused (W.refusal 1 0) → out' ≡ steps_over (always q) 0 0 out
-      → out' ≡ Field.reader_over o (with_table o b rows) m path j out
-  over-unlawful f q eq h =
-      h
-      ∙ over_refused o (with_table o b rows) m path q j (answer-unlawful o b rows dir m path t u f j q eq)
-      (count-unlawful o b rows dir m path t u f) out
-
--- a reader that has its list, or a refusal that its steps give
-module _ (o : ℕ) (b m path : List ℕ) (list : Found) (el : list ≡ Field.reader_start o b m path) where
-  pub over-found : (j : ℕ) (out out' : List ℕ) → out' ≡ steps_over (Field.list_gives o (P.parse b) m list) (Field.list_count list) j out
-      → out' ≡ Field.reader_over o b m path j out
-  unfolding Field.reader_over Field.reader_gives Field.reader_count
-  over-found j out out' h = h ∙ ap (λ (f : Found). steps_over (Field.list_gives o (P.parse b) m f) (Field.list_count f) j out) el
+over-starts o b m path h s j out out' e =
+    e ∙ alike_over (gives h) (Field.reader_gives o b m path) (count h) (starts-gives o b m path h s) j out
+    ∙ ap (λ (n : ℕ). steps_over (Field.reader_gives o b m path) n j out) (starts-count o b m path h s)

@@ -1,4 +1,5 @@
 -- What a path comes to lies within the message.
+use Rattle.std.specs.Prelude.{Result, Ok, Err}
 use mathlib.Core.Path.{◌≡◌, refl}
 use mathlib.Core.List.{List}
 use Prim.Native.Nat.{ℕ, zero, suc, ◌+◌, ◌*◌, ◌^◌, ◌<◌, ◌≤◌}
@@ -21,8 +22,7 @@ use Rattle.coding.specs.declared.Place.{Place}
 use Rattle.coding.specs.declared.Place.TheVariants.{ByOffset, InPlace}
 use Rattle.coding.specs.declared.Step.{Step}
 use Rattle.coding.specs.declared.Step.TheVariants as St
-use Rattle.coding.specs.declared.Opened.{Opened}
-use Rattle.coding.specs.declared.Opened.TheVariants as Op
+use Rattle.coding.specs.declared.Content.{Content}
 use Rattle.coding.specs.declared.Found.{Found}
 use Rattle.coding.specs.declared.Found.TheVariants as Fd
 use Rattle.laws.specs.Sound.{Sound, ObjectSound, KindSound}
@@ -36,11 +36,11 @@ use Rattle.field_part.proofs.DirectCases.{direct_small}
 use Rattle.field_part.proofs.StepsWithin.{member-within, element-within, field-within, field_sound}
 
 module _ (o : ℕ) (S : Schema) (m : List ℕ) (size : length m ≤ 16777215) where
-  opened-within : (ob : Object) (at d : ℕ) (w : Opened) → ObjectSound S ob → at < 2 ^ 60
-      → ((start n : ℕ) → w ≡ Op.Content start n → start + W.content_size o S m ob at n ≤ length m) → FoundWithin o S m (Field.opened ob at d w)
+  opened-within : (ob : Object) (at d : ℕ) (w : Result Content ℕ) → ObjectSound S ob → at < 2 ^ 60
+      → ((start n : ℕ) → w ≡ Ok (W.content_at start n) → start + W.content_size o S m ob at n ≤ length m) → FoundWithin o S m (Field.opened ob at d w)
   unfolding Field.opened
-  opened-within ob at d (Op.Refused n) s l h = tt
-  opened-within ob at d (Op.Content start n) s l h = (s, h start n refl, size, l)
+  opened-within ob at d (Err n) s l h = tt
+  opened-within ob at d (Ok c) s l h = (s, h c.start c.length refl, size, l)
 
   arrived-within : (d : ℕ) (ob : Object) (p : Place) → ObjectSound S ob → PlaceSmall p → FoundWithin o S m (Field.arrived d o S m ob p)
   unfolding Field.arrived

@@ -1,5 +1,6 @@
 -- The ways out of a path, number by number, and of what comes before it.
-use mathlib.Core.Path.{◌≡◌, sym, ap, ◌∙◌}
+use Rattle.std.specs.Prelude.{Option, Some, None}
+use mathlib.Core.Path.{◌≡◌, sym, ap, ◌∙◌, subst}
 use mathlib.Core.Bool.{Bool, true, false, ◌&&◌}
 use mathlib.Core.List.{List}
 use Prim.Native.Nat.{ℕ, suc, ◌+◌, ◌<◌, ◌≤◌}
@@ -22,9 +23,9 @@ use Rattle.coding.specs.declared.Found.TheVariants as Fd
 use Rattle.laws.specs.Lists.{both_left, both_right}
 use Rattle.coding.specs.Lawful.{lawful}
 use Rattle.coding.specs.Positions.{with_table}
-use Rattle.positions.specs.Lent.{lent_is, lent_refused}
-use Rattle.positions.specs.Rows.{TableJudged}
-use Rattle.schema.specs.Directory.{AcceptedUnder}
+use Rattle.positions.specs.declared.indexed.Indexed.{Indexed}
+use Rattle.positions.specs.Lent.{HeldWith, lent_is, lent_refused}
+use Rattle.schema.specs.Parsed.{bytes_of}
 use Rattle.field_arrival.specs.Within.{FoundWithin}
 
 -- ---- the numbers of a path, from number i on
@@ -42,34 +43,7 @@ module _ (o : ℕ) (S : Schema) (m : List ℕ) (from : Found) (path : List ℕ) 
         ∙ ap (λ (q : Found). Field.along o S m q (drop (suc i) path)) (sym e)
         ∙ ap (λ (k : ℕ). Field.along o S m g (drop k path)) (sym (add-one i))
 
-pub root-found : (o : ℕ) (S : Schema) (m path : List ℕ) (ob : Object) (p : Place) → ob ≡ O.Table S.root → p ≡ W.root_place o m → (f : Found)
-    → f ≡ Field.arrived 32 o S m ob p → (r : Found) → r ≡ Field.along o S m f path → r ≡ Field.found o S m path
-unfolding Field.found deepest
-root-found o S m path ob p eo ep f ef r e =
-    e
-    ∙ ap (λ (q : Found). Field.along o S m q path)
-    (ef ∙ ap (λ (q : Object). Field.arrived 32 o S m q p) eo ∙ ap (Field.arrived 32 o S m (O.Table S.root)) ep)
-
 -- ---- what comes first
-module _ (o : ℕ) (b dir m path : List ℕ) (a : AcceptedUnder o b dir) (r : Found) where
-  pub found_far : 96 < length path → r ≡ Fd.Refused (W.refusal 15 0) → r ≡ Field.field_found o b m path
-  unfolding Field.field_found Field.before
-  found_far h e = simp (a.lawful, lt-leb _ _ h) e
-
-  module _ (h : length path ≤ 96) (s : Bool) (es : s ≡ W.size_ok o m) where
-    pub found-size : s ≡ false → r ≡ Fd.Refused (W.refusal 2 0) → r ≡ Field.field_found o b m path
-    unfolding Field.field_found Field.before
-    found-size f e = simp (a.lawful, le-leb _ _ h, ← es, f) e
-
-    module _ (g : s ≡ true) (t : Bool) (et : t ≡ W.start_ok m) where
-      pub found_there : t ≡ true → r ≡ Field.found o (P.parse b) m path → r ≡ Field.field_found o b m path
-      unfolding Field.field_found
-      found_there f e = simp (a.lawful, le-leb _ _ h, ← es, g, ← et, f) e
-
-      pub found-other : t ≡ false → r ≡ Fd.Refused (W.refusal 3 0) → r ≡ Field.field_found o b m path
-      unfolding Field.field_found Field.before
-      found-other f e = simp (a.lawful, le-leb _ _ h, ← es, g, ← et, f) e
-
 -- a message of a right size has its start, and is within the size
 module _ (o : ℕ) (m : List ℕ) (s : Bool) (es : s ≡ W.size_ok o m) (g : s ≡ true) where
   both : (4 + o ≤ length m) × (length m ≤ 16777215)
@@ -95,9 +69,15 @@ pub unlawful : (o : ℕ) (b m path : List ℕ) → lawful o b ≡ false → Fiel
 unfolding Field.field_found Field.before
 unlawful o b m path f = simp f
 
-module _ (o : ℕ) (b rows dir m path : List ℕ) (t : Bool) (j : TableJudged o b rows dir t) (r : Found) where
-  pub found-unlawful : t ≡ false → r ≡ Fd.Refused (W.refusal 1 0) → r ≡ Field.field_found o (with_table o b rows) m path
-  found-unlawful f e = e ∙ sym (unlawful o (with_table o b rows) m path (lent_refused o b rows dir t j f))
+module _ (o : ℕ) (b rows m path : List ℕ) (h : Option Indexed) (e : HeldWith o b rows h) where
+  pub found-unlawful : h ≡ None → (r : Found) → r ≡ Fd.Refused (W.refusal 1 0) → r ≡ Field.field_found o (with_table o b rows) m path
+  found-unlawful is r q = q ∙ sym (unlawful o (with_table o b rows) m path (lent_refused o b rows h e is))
 
-  pub found-lent : t ≡ true → r ≡ Field.field_found o b m path → r ≡ Field.field_found o (with_table o b rows) m path
-  found-lent f e = lent_is o b rows dir t j f (λ (s : List ℕ). Field.field_found o s m path) r e
+  pub found-lent : (x : Indexed) → h ≡ Some x → (r : Found) → r ≡ Field.field_found x.schema.width (bytes_of x.schema) m path
+      → r ≡ Field.field_found o (with_table o b rows) m path
+  found-lent x is r q = lent_is o b rows h e x is (λ (w : ℕ) (s : List ℕ). Field.field_found w s m path) r q
+
+  pub within-lent : (x : Indexed) → h ≡ Some x → (r : Found) → FoundWithin x.schema.width (P.parse (bytes_of x.schema)) m r → FoundWithin o (P.parse b) m r
+  within-lent x is r q =
+      let k : HeldWith o b rows (Some x) = subst (HeldWith o b rows) is e in
+      subst (λ (w : ℕ). FoundWithin w (P.parse b) m r) k.1 (subst (λ (s : List ℕ). FoundWithin x.schema.width (P.parse s) m r) k.0 q)

@@ -54,12 +54,5 @@ pub fn moved<'a, 'b, 'c, 'd>(
 ) -> ListReader<'a, 'b, 'c, 'd>
     ensures { (result.schema ≡ r.entry.schema) × (result.positions ≡ r.entry.positions) × (result.message ≡ r.entry.message) × (result.path ≡ r.entry.path) × (result.element ≡ element) × (result.width ≡ r.entry.width) }
 {
-    ListReader {
-        schema: r.schema,
-        positions: r.positions,
-        message: r.message,
-        path: r.path,
-        element,
-        width: r.width,
-    }
+    ListReader { element, ..r }
 }

@@ -1,5 +1,6 @@
 -- The walk with what is left of both allowances is the walk with what is spent of them: whatever is spent, that and what is left make
 -- the budget.
+use Rattle.std.specs.Prelude.{Result, Ok, Err}
 use Prim.Native.Nat.{ℕ, zero, suc, ◌+◌, ◌-◌, ◌≤◌, ◌<◌}
 use native.Mathlib.Omega.{arith}
 use mathlib.Core.Path.{◌≡◌, refl, sym, ap, ◌∙◌}
@@ -12,6 +13,7 @@ use Rattle.coding.specs.Schema.{Schema, element_of, table_of}
 use Rattle.coding.specs.Layout.{begin, after_member}
 use Rattle.coding.specs.Step.{member_step, element_step}
 use Rattle.coding.specs.Walk as W
+use Rattle.coding.specs.Walk.{Walked}
 use Rattle.coding.specs.declared.Object.{Object}
 use Rattle.coding.specs.declared.Object.TheVariants as O
 use Rattle.coding.specs.declared.Kind.{Kind}
@@ -21,13 +23,10 @@ use Rattle.coding.specs.declared.Place.{Place}
 use Rattle.coding.specs.declared.Place.TheVariants.{ByOffset, InPlace}
 use Rattle.coding.specs.declared.Step.{Step}
 use Rattle.coding.specs.declared.Step.TheVariants as St
-use Rattle.coding.specs.declared.Opened.{Opened}
-use Rattle.coding.specs.declared.Opened.TheVariants as Op
+use Rattle.coding.specs.declared.Content.{Content}
 use Rattle.coding.specs.declared.Budget.{Budget}
 use Rattle.coding.specs.declared.Spent.{Spent}
 use Rattle.coding.specs.declared.Refusal.{Refusal}
-use Rattle.coding.specs.declared.Walked.{Walked}
-use Rattle.coding.specs.declared.Walked.TheVariants.{Going, Refused}
 use Rattle.outcome.specs.Left as Left
 
 -- what is spent and what is left make the budget
@@ -37,8 +36,8 @@ record Makes (b : Budget) (s l : Spent) : Type 0 where
 
 -- two answers of the walk, one by what is spent and one by what is left
 data Counts (b : Budget) : Walked → Walked → Type 0 where
-  goes : {s l : Spent} → Makes b s l → Counts b (Going s) (Going l)
-  stops : {r : Refusal} {s l : Spent} → Makes b s l → Counts b (Refused r s) (Refused r l)
+  goes : {s l : Spent} → Makes b s l → Counts b (Ok s) (Ok l)
+  stops : {r : Refusal} {s l : Spent} → Makes b s l → Counts b (Err (r, s)) (Err (r, l))
 
 then_counts : {b : Budget} {a a' : Walked} {next next' : Spent → Walked} → Counts b a a' → ((s l : Spent) → Makes b s l → Counts b (next s) (next' l))
     → Counts b (W.and_then a next) (W.and_then a' next')
@@ -96,28 +95,28 @@ module _ (b : Budget) (child child' : W.Child) (H : (ob : Object) (p : Place) (s
   content_counts (O.Table i) holder start n s l k = members_counts holder start n begin 0 (table_of S i).members s l k
   content_counts (O.DirectList t) holder start n s l k = directs_counts t (W.element_size o m holder) n start s l k
 
-  enter_counts : (ob : Object) (holder : ℕ) (w : Opened) (s l : Spent) → Makes b s l
+  enter_counts : (ob : Object) (holder : ℕ) (w : Result Content ℕ) (s l : Spent) → Makes b s l
       → Counts b (W.enter child o S m ob holder w s) (W.enter child' o S m ob holder w l)
   unfolding W.enter W.refuse
-  enter_counts ob holder (Op.Refused n) s l k = stops k
-  enter_counts ob holder (Op.Content start n) s l k = content_counts ob holder start n s l k
+  enter_counts ob holder (Err n) s l k = stops k
+  enter_counts ob holder (Ok c) s l k = content_counts ob holder c.start c.length s l k
 
   -- the content that is added is taken from what is left
-  admit_counts : (ob : Object) (holder : ℕ) (w : Opened) (s l : Spent) → Makes b s l
+  admit_counts : (ob : Object) (holder : ℕ) (w : Result Content ℕ) (s l : Spent) → Makes b s l
       → Counts b (W.admit child o S m b ob holder w s) (Left.admit child' o S m ob holder w l)
   unfolding W.admit Left.admit W.refuse W.with_content Left.less_content
-  admit_counts ob holder (Op.Refused n) s l k = stops k
-  admit_counts ob holder (Op.Content start n) s l k = by (W.content_length o S ob n) (leb (W.content_length o S ob n) l.content) refl
+  admit_counts ob holder (Err n) s l k = stops k
+  admit_counts ob holder (Ok x) s l k = by (W.content_length o S ob x.length) (leb (W.content_length o S ob x.length) l.content) refl
     where
       by : (c : ℕ) (t : Bool) → leb c l.content ≡ t
           → Counts b
-          (pick (leb (s.content + c) b.content) (W.enter child o S m ob holder (W.bytes_tested m ob (Op.Content start n)) (W.with_content c s)) (W.refuse 17 holder s))
-          (pick t (W.enter child' o S m ob holder (W.bytes_tested m ob (Op.Content start n)) (Left.less_content c l)) (W.refuse 17 holder l))
+          (pick (leb (s.content + c) b.content) (W.enter child o S m ob holder (W.bytes_tested m ob (Ok x)) (W.with_content c s)) (W.refuse 17 holder s))
+          (pick t (W.enter child' o S m ob holder (W.bytes_tested m ob (Ok x)) (Left.less_content c l)) (W.refuse 17 holder l))
       by c true q =
           let h = leb-true c l.content q in
           let kc = k.content in
           simp (le-leb (s.content + c) b.content (omega arith))
-          (enter_counts ob holder (W.bytes_tested m ob (Op.Content start n)) (W.spending s.visits (s.content + c)) (W.spending l.visits (l.content - c))
+          (enter_counts ob holder (W.bytes_tested m ob (Ok x)) (W.spending s.visits (s.content + c)) (W.spending l.visits (l.content - c))
           (record { visits = k.visits; content = omega arith }))
       by c false q =
           let h = leb-false c l.content q in
@@ -169,13 +168,13 @@ made b s l k =
 
 spent_is : (b : Budget) (w w' : Walked) → Counts b w w' → w ≡ Left.spent_of b w'
 unfolding Left.spent_of
-spent_is b _ _ (goes {s} {l} k) = ap Going (made b s l k)
-spent_is b _ _ (stops {r} {s} {l} k) = ap (Refused r) (made b s l k)
+spent_is b _ _ (goes {s} {l} k) = ap Ok (made b s l k)
+spent_is b _ _ (stops {r} {s} {l} k) = ap (λ (u : Spent). Err (r, u)) (made b s l k)
 
 -- what is left is within the budget
 abbrev pub Within : Budget → Walked → Type 0
-Within b (Going l) = (l.visits ≤ b.visits) × (l.content ≤ b.content)
-Within b (Refused r l) = (l.visits ≤ b.visits) × (l.content ≤ b.content)
+Within b (Ok l) = (l.visits ≤ b.visits) × (l.content ≤ b.content)
+Within b (Err (r, l)) = (l.visits ≤ b.visits) × (l.content ≤ b.content)
 
 left-within : (b : Budget) (w w' : Walked) → Counts b w w' → Within b w'
 left-within b _ _ (goes {s} {l} k) =

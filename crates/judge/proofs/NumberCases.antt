@@ -1,4 +1,5 @@
 -- A refusal's number is one byte.
+use Rattle.std.specs.Prelude.{Result, Ok, Err}
 use mathlib.Core.Bool.{Bool, true, false, ◌&&◌}
 use mathlib.Core.List.{List, [], ◌∷◌}
 use Prim.Native.Nat.{ℕ, zero, suc, ◌+◌, ◌%◌, ◌<◌}
@@ -13,6 +14,7 @@ use Rattle.coding.specs.Layout as L
 use Rattle.coding.specs.Structs.{struct_ok}
 use Rattle.coding.specs.Step as T
 use Rattle.coding.specs.Walk as W
+use Rattle.coding.specs.Walk.{Walked}
 use Rattle.coding.specs.declared.Flat.{Flat}
 use Rattle.coding.specs.declared.Flat.TheVariants as F
 use Rattle.coding.specs.declared.Object.{Object}
@@ -27,17 +29,14 @@ use Rattle.coding.specs.declared.Place.{Place}
 use Rattle.coding.specs.declared.Place.TheVariants.{ByOffset, InPlace}
 use Rattle.coding.specs.declared.Step.{Step}
 use Rattle.coding.specs.declared.Step.TheVariants as St
-use Rattle.coding.specs.declared.Opened.{Opened}
-use Rattle.coding.specs.declared.Opened.TheVariants as Op
+use Rattle.coding.specs.declared.Content.{Content}
 use Rattle.coding.specs.declared.Budget.{Budget}
 use Rattle.coding.specs.declared.Spent.{Spent}
-use Rattle.coding.specs.declared.Walked.{Walked}
-use Rattle.coding.specs.declared.Walked.TheVariants.{Going, Refused}
 use Rattle.laws.specs.Lists.{pick_holds}
 
 abbrev pub NumberSmall : Walked → Type 0
-NumberSmall (Going s) = Unit {0}
-NumberSmall (Refused x s) = x.number < 256
+NumberSmall (Ok s) = Unit {0}
+NumberSmall (Err (x, s)) = x.number < 256
 
 abbrev StepNumber : Step → Type 0
 StepNumber (St.Refused n) = n < 256
@@ -48,23 +47,23 @@ StepNumber (St.Struct i at) = Unit {0}
 StepNumber (St.Object ob p) = Unit {0}
 StepNumber (St.Choice c ob p) = Unit {0}
 
-abbrev OpenNumber : Opened → Type 0
-OpenNumber (Op.Refused n) = n < 256
-OpenNumber (Op.Content start n) = Unit {0}
+abbrev OpenNumber : Result Content ℕ → Type 0
+OpenNumber (Err n) = n < 256
+OpenNumber (Ok c) = Unit {0}
 
 -- ---- opening
-unless : (t : Bool) (k : ℕ) (g : Opened) → k < 256 → OpenNumber g → OpenNumber (pick t g (Op.Refused k))
+unless : (t : Bool) (k : ℕ) (g : Result Content ℕ) → k < 256 → OpenNumber g → OpenNumber (pick t g (Err k))
 unless true k g l h = h
 unless false k g l h = l
 
-header-number : (o : ℕ) (S : Schema) (m : List ℕ) (ob : Object) (at : ℕ) (g : Opened) → OpenNumber g → OpenNumber (W.header_tested o S m ob at g)
+header-number : (o : ℕ) (S : Schema) (m : List ℕ) (ob : Object) (at : ℕ) (g : Result Content ℕ) → OpenNumber g → OpenNumber (W.header_tested o S m ob at g)
 unfolding W.header_tested W.direct_header
 header-number o S m O.Text at g h = h
 header-number o S m O.Bytes at g h = h
 header-number o S m (O.List i) at g h = h
 header-number o S m (O.Table i) at g h = h
 header-number o S m (O.DirectList t) at g h =
-    unless (eqb (W.element_id o m at) (Sc.table_of S t).id) 7 (pick (leb (le m (at + 4) o) W.most_elements) g (Op.Refused 6)) (omega arith)
+    unless (eqb (W.element_id o m at) (Sc.table_of S t).id) 7 (pick (leb (le m (at + 4) o) W.most_elements) g (Err 6)) (omega arith)
     (unless (leb (le m (at + 4) o) W.most_elements) 6 g (omega arith) h)
 
 module _ (o : ℕ) (S : Schema) (m : List ℕ) (ob : Object) where
@@ -72,7 +71,7 @@ module _ (o : ℕ) (S : Schema) (m : List ℕ) (ob : Object) where
   unfolding W.fit_content
   content-number at start n = by (leb (start + W.content_size o S m ob at n) (length m))
     where
-      by : (t : Bool) → OpenNumber (pick t (Op.Content start n) (Op.Refused 6))
+      by : (t : Bool) → OpenNumber (pick t (Ok (W.content_at start n)) (Err 6))
       by true = tt
       by false = omega arith
 
@@ -82,18 +81,18 @@ module _ (o : ℕ) (S : Schema) (m : List ℕ) (ob : Object) where
       by (leb (W.start_size o) x && leb (x + W.header_size o ob) (length m)) (eqb (le m x 4) (W.magic S ob)) _
       (header-number o S m ob x _ (content-number x (x + W.header_size o ob) (le m (x + 4) o)))
     where
-      by : (t u : Bool) (g : Opened) → OpenNumber g → OpenNumber (pick t (pick u g (Op.Refused 7)) (Op.Refused 6))
+      by : (t u : Bool) (g : Result Content ℕ) → OpenNumber g → OpenNumber (pick t (pick u g (Err 7)) (Err 6))
       by true true g h = h
       by true false g h = omega arith
       by false u g h = omega arith
   fit-number (InPlace a n) = unless (W.stands_in_place ob) 6 _ (omega arith) (content-number a a n)
 
-  bytes-number : (g : Opened) → OpenNumber g → OpenNumber (W.bytes_tested m ob g)
+  bytes-number : (g : Result Content ℕ) → OpenNumber g → OpenNumber (W.bytes_tested m ob g)
   unfolding W.bytes_tested
-  bytes-number (Op.Refused n) h = h
-  bytes-number (Op.Content start n) h =
-      unless (W.end_ok m ob start n) 10 (pick (W.text_ok m ob start n) (Op.Content start n) (Op.Refused 16)) (omega arith)
-      (unless (W.text_ok m ob start n) 16 (Op.Content start n) (omega arith) h)
+  bytes-number (Err n) h = h
+  bytes-number (Ok c) h =
+      unless (W.end_ok m ob c.start c.length) 10 (pick (W.text_ok m ob c.start c.length) (Ok c) (Err 16)) (omega arith)
+      (unless (W.text_ok m ob c.start c.length) 16 (Ok c) (omega arith) h)
 
 -- ---- steps
 flat-number : (m : List ℕ) (k : Flat) (none : Bool) (at bit : ℕ) → StepNumber (T.flat_step m k none at bit)
@@ -188,8 +187,8 @@ part_small n holder j s h = h
 
 then_small : (w : Walked) (next : Spent → Walked) → NumberSmall w → ((s : Spent) → NumberSmall (next s)) → NumberSmall (W.and_then w next)
 unfolding W.and_then
-then_small (Going s) next h f = f s
-then_small (Refused x s) next h f = h
+then_small (Ok s) next h f = f s
+then_small (Err (x, s)) next h f = h
 
 module _ (child : W.Child) (small : (ob : Object) (p : Place) (s : Spent) → NumberSmall (child ob p s)) where
   choice_small : (holder j : ℕ) (ob : Object) (p : Place) (s : Spent) → NumberSmall (W.follow_choice child holder j ob p s)
@@ -237,18 +236,18 @@ module _ (child : W.Child) (small : (ob : Object) (p : Place) (s : Spent) → Nu
   content_small o S m (O.Table i) holder start n s = members_small o S m holder start n L.begin 0 (Sc.table_of S i).members s
   content_small o S m (O.DirectList t) holder start n s = directs_small t (W.element_size o m holder) n start s
 
-  enter_small : (o : ℕ) (S : Schema) (m : List ℕ) (ob : Object) (holder : ℕ) (g : Opened) (s : Spent) → OpenNumber g → NumberSmall (W.enter child o S m ob holder g s)
+  enter_small : (o : ℕ) (S : Schema) (m : List ℕ) (ob : Object) (holder : ℕ) (g : Result Content ℕ) (s : Spent) → OpenNumber g → NumberSmall (W.enter child o S m ob holder g s)
   unfolding W.enter
-  enter_small o S m ob holder (Op.Refused n) s h = refuse_small n holder s h
-  enter_small o S m ob holder (Op.Content start n) s h = content_small o S m ob holder start n s
+  enter_small o S m ob holder (Err n) s h = refuse_small n holder s h
+  enter_small o S m ob holder (Ok c) s h = content_small o S m ob holder c.start c.length s
 
-  admit_small : (o : ℕ) (S : Schema) (m : List ℕ) (b : Budget) (ob : Object) (holder : ℕ) (g : Opened) (s : Spent) → OpenNumber g
+  admit_small : (o : ℕ) (S : Schema) (m : List ℕ) (b : Budget) (ob : Object) (holder : ℕ) (g : Result Content ℕ) (s : Spent) → OpenNumber g
       → NumberSmall (W.admit child o S m b ob holder g s)
   unfolding W.admit
-  admit_small o S m b ob holder (Op.Refused n) s h = refuse_small n holder s h
-  admit_small o S m b ob holder (Op.Content start n) s h =
-      pick_holds NumberSmall (leb (s.content + W.content_length o S ob n) b.content) _ (W.refuse 17 holder s)
-      (λ _. enter_small o S m ob holder (W.bytes_tested m ob (Op.Content start n)) _ (bytes-number o S m ob (Op.Content start n) tt))
+  admit_small o S m b ob holder (Err n) s h = refuse_small n holder s h
+  admit_small o S m b ob holder (Ok c) s h =
+      pick_holds NumberSmall (leb (s.content + W.content_length o S ob c.length) b.content) _ (W.refuse 17 holder s)
+      (λ _. enter_small o S m ob holder (W.bytes_tested m ob (Ok c)) _ (bytes-number o S m ob (Ok c) tt))
       (λ _. refuse_small 17 holder s (omega arith))
 
   arrive_small : (o : ℕ) (S : Schema) (m : List ℕ) (b : Budget) (ob : Object) (p : Place) (s : Spent) → NumberSmall (W.arrive child o S m b ob p s)

@@ -14,16 +14,17 @@ use Rattle.coding.specs.Schema.{Schema}
 use Rattle.coding.specs.Packed as P
 use Rattle.coding.specs.Positions.{with_table}
 use Rattle.coding.specs.Walk as W
+use Rattle.coding.specs.Walk.{Walked}
 use Rattle.coding.specs.declared.Object.{Object}
 use Rattle.coding.specs.declared.Object.TheVariants as O
 use Rattle.coding.specs.declared.Place.{Place}
 use Rattle.coding.specs.declared.Budget.{Budget}
 use Rattle.coding.specs.declared.Verdict.{Verdict}
-use Rattle.coding.specs.declared.Walked.{Walked}
-use Rattle.coding.specs.declared.Walked.TheVariants.{Going, Refused}
-use Rattle.schema.specs.Directory.{AcceptedUnder}
-use Rattle.positions.specs.Rows.{TableJudged}
-use Rattle.positions.specs.Lent.{lent_is, lent_refused}
+use Rattle.coding.specs.Lawful.{lawful}
+use Rattle.std.specs.Prelude.{Option, Some, None, Ok, Err}
+use Rattle.positions.specs.declared.indexed.Indexed.{Indexed}
+use Rattle.schema.specs.Parsed.{bytes_of}
+use Rattle.positions.specs.Lent.{HeldWith, lent_is, lent_refused}
 use Rattle.outcome.specs.declared.Outcome.{Outcome}
 use Rattle.outcome.specs.Answers.{walked_of, left_of}
 use Rattle.outcome.specs.Left as Left
@@ -49,7 +50,7 @@ module _ (o : ℕ) (b m : List ℕ) (v c : ℕ) (ob : Object) (p : Place) (eo : 
   both = by (eqb w.code 0) left
     where
       by : (t : Bool)
-          → Within (W.allowing v c) (pick t (Going (left_of w)) (Refused (record { number = w.code - 1; place = w.place; member = w.member }) (left_of w)))
+          → Within (W.allowing v c) (pick t (Ok (left_of w)) (Err (record { number = w.code - 1; place = w.place; member = w.member }, left_of w)))
           → (w.visits ≤ v) × (w.content ≤ c)
       by true h = h
       by false h = h
@@ -73,28 +74,28 @@ module _ (o : ℕ) (m : List ℕ) (t : Bool) (et : t ≡ W.size_ok o m) (f : t �
   unfolding W.size_ok W.start_size largest
   size-largest = leb-true (length m) 16777215 (both_right (leb (4 + o) (length m)) (leb (length m) 16777215) (sym et ∙ f))
 
-module _ (o : ℕ) (b dir m : List ℕ) (a : AcceptedUnder o b dir) (budget : Budget) (r : Verdict) (q : Bool) (eq : q ≡ W.size_ok o m) where
+module _ (o : ℕ) (b m : List ℕ) (a : lawful o b ≡ true) (budget : Budget) (r : Verdict) (q : Bool) (eq : q ≡ W.size_ok o m) where
   pub verdict-size : q ≡ false → r ≡ W.early 2 → r ≡ W.verdict o b m budget
   unfolding W.verdict
-  verdict-size h e = simp (a.lawful, ← eq, h) e
+  verdict-size h e = simp (a, ← eq, h) e
 
   module _ (h : q ≡ true) (t : Bool) (et : t ≡ W.start_ok m) where
     pub verdict-walk : t ≡ true → (w : Walked) → W.walk o (P.parse b) m budget ≡ w → r ≡ W.verdict_of w → r ≡ W.verdict o b m budget
     unfolding W.verdict
-    verdict-walk f w ew e = simp (a.lawful, ← eq, h, ← et, f, ew) e
+    verdict-walk f w ew e = simp (a, ← eq, h, ← et, f, ew) e
 
     pub verdict-other : t ≡ false → r ≡ W.early 3 → r ≡ W.verdict o b m budget
     unfolding W.verdict
-    verdict-other f e = simp (a.lawful, ← eq, h, ← et, f) e
+    verdict-other f e = simp (a, ← eq, h, ← et, f) e
 
 -- a table that was handed in with the schema
-module _ (o : ℕ) (b rows dir m : List ℕ) (budget : Budget) (t : Bool) (j : TableJudged o b rows dir t) where
-  pub verdict-lent : t ≡ true → (r : Verdict) → r ≡ W.verdict o b m budget → r ≡ W.verdict o (with_table o b rows) m budget
-  verdict-lent f r e = lent_is o b rows dir t j f (λ (s : List ℕ). W.verdict o s m budget) r e
+module _ (o : ℕ) (b rows m : List ℕ) (budget : Budget) (h : Option Indexed) (e : HeldWith o b rows h) where
+  pub verdict-lent : (x : Indexed) → h ≡ Some x → (r : Verdict) → r ≡ W.verdict x.schema.width (bytes_of x.schema) m budget → r ≡ W.verdict o (with_table o b rows) m budget
+  verdict-lent x is r q = lent_is o b rows h e x is (λ (w : ℕ) (s : List ℕ). W.verdict w s m budget) r q
 
-  pub verdict-unlawful : t ≡ false → (r : Verdict) → r ≡ W.early 1 → r ≡ W.verdict o (with_table o b rows) m budget
+  pub verdict-unlawful : h ≡ None → (r : Verdict) → r ≡ W.early 1 → r ≡ W.verdict o (with_table o b rows) m budget
   unfolding W.verdict
-  verdict-unlawful f r e = simp (lent_refused o b rows dir t j f) e
+  verdict-unlawful is r q = simp (lent_refused o b rows h e is) q
 
 module _ (w : Outcome) (v c : ℕ) where
   pub verdict_going : w.code ≡ 0
@@ -116,6 +117,6 @@ module _ (w : Outcome) (v c : ℕ) where
       by : (t : Bool) → eqb w.code 0 ≡ t → w.code ≤ 256
       by true q = let z = eqb-true w.code 0 q in omega arith
       by false q =
-          let y : NumberSmall (Left.spent_of (W.allowing v c) (pick (eqb w.code 0) (Going (left_of w)) (Refused (record { number = w.code - 1; place = w.place; member = w.member }) (left_of w)))) = subst NumberSmall e (walk_small o S m (W.allowing v c)) in
+          let y : NumberSmall (Left.spent_of (W.allowing v c) (pick (eqb w.code 0) (Ok (left_of w)) (Err (record { number = w.code - 1; place = w.place; member = w.member }, left_of w)))) = subst NumberSmall e (walk_small o S m (W.allowing v c)) in
           let z : w.code - 1 < 256 = rw q at y in
           omega arith

@@ -1,4 +1,5 @@
 -- Elements that only count: how many the allowances have room for, and the arrivals at them.
+use Rattle.std.specs.Prelude.{Ok, Err}
 use mathlib.Core.Path.{◌≡◌, refl, sym, ap, ◌∙◌, subst}
 use mathlib.Core.Bool.{Bool, true, false}
 use mathlib.Core.List.{List}
@@ -13,11 +14,10 @@ use Rattle.coding.specs.Lists.{pick}
 use Rattle.coding.specs.Packed as P
 use Rattle.coding.specs.Schema.{Schema}
 use Rattle.coding.specs.Walk as W
+use Rattle.coding.specs.Walk.{Walked}
 use Rattle.coding.specs.declared.Object.TheVariants as O
 use Rattle.coding.specs.declared.Place.TheVariants.{InPlace, ByOffset}
 use Rattle.coding.specs.declared.Spent.{Spent}
-use Rattle.coding.specs.declared.Walked.{Walked}
-use Rattle.coding.specs.declared.Walked.TheVariants.{Going, Refused}
 use Rattle.wire.specs.Products.{times_more, times-within}
 use Rattle.outcome.specs.Left as Left
 use Rattle.outcome.specs.Answers.{within, charged}
@@ -57,7 +57,7 @@ module _ (w n c : ℕ) where
 
 -- ---- the elements
 module _ (w at v c : ℕ) where
-  pass_going : 0 < v → w ≤ c → pass w at (W.spending v c) ≡ Going (W.spending (v - 1) (c - w))
+  pass_going : 0 < v → w ≤ c → pass w at (W.spending v c) ≡ Ok (W.spending (v - 1) (c - w))
   unfolding pass
   pass_going h l = simp (lt-ltb 0 v h, le-leb w c l)
 
@@ -106,11 +106,11 @@ module _ (w n at v c : ℕ) (r : Walked) where
       from k (suc (n - (k + 1))) (omega arith) hv hc
       (f ∙ sym (ap (λ (q : Walked). W.and_then q (passes w (n - (k + 1)) (at + w * k + w))) e))
 
-  pub settle_all : (k : ℕ) → Afforded w n c k → n ≤ v → n ≤ k → (z : ℕ) → z ≡ c - w * n → r ≡ Going (W.spending (v - n) z) → r ≡ passes w n at (W.spending v c)
+  pub settle_all : (k : ℕ) → Afforded w n c k → n ≤ v → n ≤ k → (z : ℕ) → z ≡ c - w * n → r ≡ Ok (W.spending (v - n) z) → r ≡ passes w n at (W.spending v c)
   unfolding passes
   settle_all k a hv h z ez f =
       let e : k ≡ n = omega (arith, a.few) in
-      from n 0 (omega arith) hv (subst (λ (q : ℕ). w * q ≤ c) e a.room) (f ∙ ap (λ (q : ℕ). Going (W.spending (v - n) q)) ez)
+      from n 0 (omega arith) hv (subst (λ (q : ℕ). w * q ≤ c) e a.room) (f ∙ ap (λ (q : ℕ). Ok (W.spending (v - n) q)) ez)
 
   pub settle_visits : (k : ℕ) → Afforded w n c k → v < n → v ≤ k → (z : ℕ) → z ≡ c - w * v → r ≡ W.refuse 4 (at + w * v) (W.spending 0 z)
       → r ≡ passes w n at (W.spending v c)
@@ -161,7 +161,7 @@ size_room w n c k a = a.room
 module _ (o : ℕ) (b m : List ℕ) (t w : ℕ) (silent : Silent o b t w) where
   fits_here : (at : ℕ) → at + w ≤ length m → (s : Spent) (child : W.Child)
       → Left.arrive child o (P.parse b) m (O.Table t) (InPlace at w) s
-      ≡ pick (leb w s.content) (Going (W.spending s.visits (s.content - w))) (W.refuse 17 at s)
+      ≡ pick (leb w s.content) (Ok (W.spending s.visits (s.content - w))) (W.refuse 17 at s)
   unfolding Left.arrive Left.admit Left.less_content W.fit_object W.stands_in_place W.fit_content W.content_size W.content_length W.placed W.bytes_tested W.end_ok W.text_ok W.enter W.content
   fits_here at h s child =
       simp (le-leb (at + w) (length m) h)
@@ -174,8 +174,8 @@ module _ (o : ℕ) (b m : List ℕ) (t w : ℕ) (silent : Silent o b t w) where
 
   then_same : (a : Walked) (f g : Spent → Walked) → ((s : Spent) → f s ≡ g s) → W.and_then a f ≡ W.and_then a g
   unfolding W.and_then
-  then_same (Going s) f g h = h s
-  then_same (Refused r s) f g h = refl
+  then_same (Ok s) f g h = h s
+  then_same (Err (r, s)) f g h = refl
 
   directs-pass : (d n at : ℕ) → at + w * n ≤ length m → (s : Spent) → W.directs (Left.visit (suc d) o (P.parse b) m) t w n at s ≡ passes w n at s
   unfolding W.directs passes
@@ -193,7 +193,7 @@ module _ (o : ℕ) (b m : List ℕ) (t w : ℕ) (silent : Silent o b t w) where
       by (suc k) y = f ∙ sym (directs-pass k n at h s)
 
 module _ (child : W.Child) (t w n at : ℕ) (s : Spent) (r : Walked) where
-  pub count_none : n ≡ 0 → r ≡ Going s → r ≡ W.directs child t w n at s
+  pub count_none : n ≡ 0 → r ≡ Ok s → r ≡ W.directs child t w n at s
   unfolding W.directs
   count_none e f = rw e f
 

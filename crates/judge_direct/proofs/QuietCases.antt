@@ -1,4 +1,5 @@
 -- Members that lead nowhere, whatever stands there.
+use Rattle.std.specs.Prelude.{Ok, Option, Some, None}
 use mathlib.Core.Path.{◌≡◌, refl, sym, ap, ◌∙◌, subst}
 use mathlib.Core.Bool.{Bool, true, false, ◌&&◌}
 use mathlib.Core.List.{List}
@@ -25,7 +26,6 @@ use Rattle.coding.specs.declared.Cursor.{Cursor}
 use Rattle.coding.specs.declared.Slot.{Slot}
 use Rattle.coding.specs.declared.Step.{Step}
 use Rattle.coding.specs.declared.Step.TheVariants as St
-use Rattle.coding.specs.declared.Walked.TheVariants.{Going}
 use Rattle.laws.specs.Lists.{never}
 use Rattle.laws.specs.Sound.{ObjectSound, KindSound}
 use Rattle.laws.specs.SoundAt.{struct_index, table_index}
@@ -33,7 +33,7 @@ use Rattle.schema.specs.Representatives.{Represents}
 use Rattle.message_layout.specs.Bounds.{Laid, Stands}
 use Rattle.message_step.specs.Lead.{lead_of}
 use Rattle.judge_rows.proofs.MemberCases.{members_start, members_ended, members_done, members_nowhere}
-use Rattle.judge_direct.specs.Direct.{Harmless, uncut, Quiet, Led, Onto, Silent}
+use Rattle.judge_direct.specs.Direct.{Harmless, uncut, Quiet, Passed, Led, Onto, Silent}
 
 -- ---- a kind
 module _ (S : Schema) (k : Kind) (f : Flat) (e : k ≡ OfFlat f) where
@@ -127,10 +127,10 @@ quiet_is S r w slot f ef zf h u eu zu = record { plain = sym ef ∙ zf; value = 
 
 -- ---- member j of a table
 pub quiet_led : (o : ℕ) (b : List ℕ) (t j w : ℕ) (c : Cursor) (r : Member) → r ≡ Sc.member_of (P.parse b) t j → Laid (4097 * j) c → (slot : Slot) (next : Cursor)
-    → Stands (L.member_slot o (P.parse b) r c) (L.after_member o (P.parse b) r c) (c.end + 1) slot next → (q : Bool) → (q ≡ true → Quiet (P.parse b) r w slot) → Led o b t j w c q next
-quiet_led o b t j w c r er lc slot next st q h =
+    → Stands (L.member_slot o (P.parse b) r c) (L.after_member o (P.parse b) r c) (c.end + 1) slot next → (q : Bool) → (q ≡ true → Quiet (P.parse b) r w slot) → q ≡ true → Passed o b t j w c next
+quiet_led o b t j w c r er lc slot next st q h z =
     record {
-      nowhere = λ z m start. subst (λ (k : Member). lead_of (T.member_step o (P.parse b) m start w c k) ≡ St.Absent) er
+      nowhere = λ m start. subst (λ (k : Member). lead_of (T.member_step o (P.parse b) m start w c k) ≡ St.Absent) er
           (quiet_nowhere o (P.parse b) m start w c r (subst (λ (k : Slot). Quiet (P.parse b) r w k) st.slot_is (h z)));
       next_is = st.next_is ∙ ap (λ (k : Member). L.after_member o (P.parse b) k c) er;
       laid = quiet_laid;
@@ -142,6 +142,12 @@ quiet_led o b t j w c r er lc slot next st q h =
         let y = st.laid.end in
         record { end = omega arith; byte = st.laid.byte; bit = st.laid.bit }
 
+pub led_passed : (o : ℕ) (b : List ℕ) (t j w : ℕ) (c : Cursor) (q : Option Cursor) (next : Cursor) → Led o b t j w c q → q ≡ Some next → Passed o b t j w c next
+led_passed o b t j w c q next e z = subst (Led o b t j w c) z e
+
+pub led_laid : (o : ℕ) (b : List ℕ) (t j w : ℕ) (c : Cursor) (q : Option Cursor) (next : Cursor) → Led o b t j w c q → q ≡ Some next → Laid (4097 * (j + 1)) next
+led_laid o b t j w c q next e z = (led_passed o b t j w c q next e z).laid
+
 -- ---- the members of a table, from member j on
 module _ (o : ℕ) (b : List ℕ) (t w : ℕ) where
   pub onto_start : (c : Cursor) → c ≡ L.begin → Onto o b t w c 0
@@ -152,7 +158,7 @@ module _ (o : ℕ) (b : List ℕ) (t w : ℕ) where
     onto_ended x ex l h =
         record {
           goes = λ child m holder start s.
-              sym (members_ended child o (P.parse b) m holder start w t s c j s (inv.same child m holder start s) x ex l h (Going s) refl);
+              sym (members_ended child o (P.parse b) m holder start w t s c j s (inv.same child m holder start s) x ex l h (Ok s) refl);
         }
 
     module _ (count : ℕ) (ec : count ≡ length (Sc.table_of (P.parse b) t).members) where
@@ -160,15 +166,16 @@ module _ (o : ℕ) (b : List ℕ) (t w : ℕ) where
       onto_done h =
           record {
             goes = λ child m holder start s.
-                sym (members_done child o (P.parse b) m holder start w t s c j s (inv.same child m holder start s) count ec h (Going s) refl);
+                sym (members_done child o (P.parse b) m holder start w t s c j s (inv.same child m holder start s) count ec h (Ok s) refl);
           }
 
-      pub onto_next : j < count → (q : Bool) (next : Cursor) → Led o b t j w c q next → q ≡ true → Onto o b t w next (j + 1)
-      onto_next h q next l z =
+      pub onto_next : j < count → (q : Option Cursor) (next : Cursor) → Led o b t j w c q → q ≡ Some next → Onto o b t w next (j + 1)
+      onto_next h q next e z =
+          let l : Passed o b t j w c next = led_passed o b t j w c q next e z in
           record {
             same = λ child m holder start s.
                 members_nowhere child o (P.parse b) m holder start w t s c j s (inv.same child m holder start s) count ec h
-                (lead_of (T.member_step o (P.parse b) m start w c (Sc.member_of (P.parse b) t j))) refl (l.nowhere z m start) next l.next_is;
+                (lead_of (T.member_step o (P.parse b) m start w c (Sc.member_of (P.parse b) t j))) refl (l.nowhere m start) next l.next_is;
           }
 
 pub laid_end : (j : ℕ) (c : Cursor) → Laid (4097 * j) c → j < 256 → c.end < 2 ^ 58

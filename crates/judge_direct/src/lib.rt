@@ -8,20 +8,21 @@ ghost use Rattle.coding.specs.Schema as Sc;
 ghost use Rattle.coding.specs.Walk as W;
 ghost use Rattle.laws.specs.Sound.{ObjectSound, KindSound, MemberSound};
 ghost use Rattle.message_layout.specs.Bounds.{Laid};
-ghost use Rattle.schema.specs.Directory.{Accepted};
 ghost use Rattle.outcome.specs.Answers as As;
 ghost use Rattle.judge_direct.specs.Direct as Ds;
-ghost use Rattle.wire.specs.Sizes.{WithinSize, Width};
+ghost use Rattle.wire.specs.Sizes.{WithinSize};
+ghost use Rattle.schema.specs.Parsed.{parsed, bytes_of};
 
 use coding::{Cursor, Flat, Kind, Member, Object, Slot};
 use outcome::{Content, Outcome};
+use schema::{Reading, Schema};
 
 // ---- whether they only count
 // Whether a value of the kind leads nowhere and is not refused, whatever stands there: a number, a float, an enum, a bool, or a
 // struct without a bool.
-fn is_harmless(b: &[u8], dir: &[u16], k: Kind) -> bool
-    requires { (Accepted b.now dir.now) × (KindSound (P.parse b.now) k) }
-    ensures { result ≡ true → Ds.Harmless (P.parse b.now) k }
+fn is_harmless(schema: &Schema, k: Kind) -> bool
+    requires { KindSound (parsed schema.now) k }
+    ensures { result ≡ true → Ds.Harmless (parsed schema.now) k }
 {
     match k {
         Kind::OfFlat(f) => match f {
@@ -29,10 +30,9 @@ fn is_harmless(b: &[u8], dir: &[u16], k: Kind) -> bool
             Flat::Integer(_, _) => true,
             Flat::Float(_) => true,
             Flat::Enumerated(_) => true,
-            Flat::Struct(i) => schema::representative(b, dir, wire::index(i)) == schema::NO_BOOL,
+            Flat::Struct(i) => schema.representative(wire::index(i)) == schema::NO_BOOL,
         },
-        Kind::OfObject(_) => false,
-        Kind::OfUnion(_) => false,
+        _ => false,
     }
 }
 
@@ -41,90 +41,57 @@ fn is_uncut(w: usize, slot: Slot) -> bool
     requires { (slot.at < 2 ^ 60) × (slot.size ≤ 4096) }
     ensures { result ≡ Ds.uncut w slot }
 {
-    if w <= slot.at {
-        return true;
-    }
-    slot.at + slot.size <= w
+    w <= slot.at || slot.at + slot.size <= w
 }
 
 // Whether a member in that slot of a fixed part of w bytes leads nowhere, whatever stands there: it has no flag and is not cut.
-fn is_quiet(b: &[u8], dir: &[u16], r: Member, w: usize, slot: Slot) -> bool
-    requires { (Accepted b.now dir.now) × (MemberSound (P.parse b.now) r) × (slot.at < 2 ^ 60) × (slot.size ≤ 4096) }
-    ensures { result ≡ true → Ds.Quiet (P.parse b.now) r w slot }
+fn is_quiet(schema: &Schema, r: Member, w: usize, slot: Slot) -> bool
+    requires { (MemberSound (parsed schema.now) r) × (slot.at < 2 ^ 60) × (slot.size ≤ 4096) }
+    ensures { result ≡ true → Ds.Quiet (parsed schema.now) r w slot }
 {
-    if message_layout::has_flag(r) {
-        return false;
-    }
-    let k = r.kind;
-    if is_harmless(b, dir, k) {
-        return is_uncut(w, slot);
-    }
-    false
+    !message_layout::has_flag(r) && is_harmless(schema, r.kind) && is_uncut(w, slot)
 }
 
-// A member of a fixed part: whether it leads nowhere, whatever stands there, and the cursor behind it.
-#[derive(Clone, Copy)]
-struct QuietMember {
-    quiet: bool,
-    next: Cursor,
-}
-
-// Member j of table t, before which the cursor stands, in a fixed part of w bytes.
-fn quiet_member(
-    b: &[u8],
-    dir: &[u16],
-    t: usize,
-    j: usize,
-    w: usize,
-    c: Cursor,
-    o: usize,
-) -> QuietMember
-    requires { (Accepted b.now dir.now) × (Width o) × (t < P.table_count b.now) × (j < length (Sc.table_of (P.parse b.now) t).members) × (j < 256) × (Laid (4097 * j) c) }
-    ensures { Ds.Led o b.now t j w c result.quiet result.next }
+// The cursor behind member j of table t, before which the cursor c stands, if the member leads nowhere in a fixed part of w bytes,
+// whatever stands there.
+fn behind_quiet(schema: &Schema, t: usize, j: usize, w: usize, c: Cursor) -> Option<Cursor>
+    requires { (t < P.table_count (bytes_of schema.now)) × (j < length (Sc.table_of (parsed schema.now) t).members) × (j < 256) × (Laid (4097 * j) c) }
+    ensures { Ds.Led schema.now.width (bytes_of schema.now) t j w c result }
 {
-    let r = schema::member(b, dir, t, j);
-    let p = message_layout::place_member(b, dir, r, c, o);
-    let next = p.next;
-    let placement = p.placement;
-    let slot = placement.value;
-    QuietMember {
-        quiet: is_quiet(b, dir, r, w, slot),
-        next,
+    let r = schema.packed.member(t, j);
+    let p = message_layout::place_member(schema, r, c);
+    if is_quiet(schema, r, w, p.placement.value) {
+        Some(p.next)
+    } else {
+        None
     }
 }
 
 // Whether the members of table t go on in any fixed part of w bytes.
-fn is_silent(b: &[u8], dir: &[u16], t: usize, w: usize, o: usize) -> bool
-    requires { (Accepted b.now dir.now) × (Width o) × (t < P.table_count b.now) }
-    ensures { result ≡ true → Ds.Silent o b.now t w }
+fn is_silent(schema: &Schema, t: usize, w: usize) -> bool
+    requires { t < P.table_count (bytes_of schema.now) }
+    ensures { result ≡ true → Ds.Silent schema.now.width (bytes_of schema.now) t w }
 {
-    let count = schema::member_count(b, dir, t);
+    let count = schema.packed.member_count(t);
     let mut c = message_layout::begin();
-    let mut j: usize = 0;
-    while j < count {
+    for j in 0..count {
         if w <= message_layout::bit_byte(c) {
             return true;
         }
-        let q = quiet_member(b, dir, t, j, w, c, o);
-        if q.quiet {
-            c = q.next;
-            j += 1;
-        } else {
-            return false;
+        match behind_quiet(schema, t, j, w, c) {
+            Some(next) => c = next,
+            None => return false,
         }
     }
     true
 }
 
 // Whether each of n elements of table t, of w bytes, only counts. One alone is walked in the time that it takes to tell.
-pub fn only_count(b: &[u8], dir: &[u16], t: u8, w: usize, n: usize, o: usize) -> bool
-    requires { (Accepted b.now dir.now) × (Width o) × (ObjectSound (P.parse b.now) (Object.Table t)) }
-    ensures { result ≡ true → Ds.Silent o b.now t w }
+pub fn only_count(schema: &Schema, t: u8, w: usize, n: usize) -> bool
+    requires { ObjectSound (parsed schema.now) (Object.Table t) }
+    ensures { result ≡ true → Ds.Silent schema.now.width (bytes_of schema.now) t w }
 {
-    if n < 2 {
-        return false;
-    }
-    is_silent(b, dir, wire::index(t), w, o)
+    2 <= n && is_silent(schema, wire::index(t), w)
 }
 
 // ---- then each takes a visit and its bytes of content
@@ -179,18 +146,16 @@ fn settle(at: usize, w: usize, n: usize, visits: u32, content: u64) -> Outcome
 
 // The elements of a direct list of table t, of w bytes each, which only count.
 pub fn count(
-    b: &[u8],
-    m: &[u8],
+    reading: &Reading,
     depth: usize,
     t: u8,
     w: usize,
     x: Content,
     visits: u32,
     content: u64,
-    o: usize,
 ) -> Outcome
-    requires { (WithinSize m.now) × (x.start + w * x.length ≤ length m.now) × (Ds.Silent o b.now t w) }
-    ensures { As.walked_of result ≡ As.directs_by o b.now m.now depth t w x (W.spending visits content) }
+    requires { (x.start + w * x.length ≤ length reading.now.message.now) × (Ds.Silent reading.now.schema.width (bytes_of reading.now.schema) t w) }
+    ensures { As.walked_of result ≡ As.directs_by reading.now.schema.width (bytes_of reading.now.schema) reading.now.message.now depth t w x (W.spending visits content) }
 {
     if x.length == 0 {
         return outcome::going(visits, content);

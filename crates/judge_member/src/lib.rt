@@ -6,13 +6,14 @@ ghost use Rattle.coding.specs.Packed as P;
 ghost use Rattle.coding.specs.Schema as Sc;
 ghost use Rattle.laws.specs.Sound.{ObjectSound};
 ghost use Rattle.message_layout.specs.Bounds.{Laid};
-ghost use Rattle.schema.specs.Directory.{Accepted};
 ghost use Rattle.judge_member.specs.Records as Rs;
-ghost use Rattle.wire.specs.Sizes.{WithinSize, Width};
+ghost use Rattle.wire.specs.Sizes.{Width};
+ghost use Rattle.schema.specs.Parsed.{parsed, bytes_of};
 
 use coding::{Cursor, Object, Step};
 use message_step::SteppedMember;
 use outcome::Content;
+use schema::{Reading, Schema};
 
 // ---- a record's first byte
 // It is eight times the kind, and flags that are 0 where the member is neither optional nor in place.
@@ -23,20 +24,14 @@ const TEXT_BY_OFFSET: usize = 104;
 fn is_number_kind(k: usize) -> bool
     ensures { result ≡ true → (0 < k) × (k < 12) }
 {
-    if k == schema::KIND_BOOL {
-        return false;
-    }
-    k < schema::KIND_STRUCT
+    k != schema::KIND_BOOL && k < schema::KIND_STRUCT
 }
 
 // Whether the byte says a number, a float or an enum, neither optional nor in place.
 fn is_plain(h: usize) -> bool
     ensures { result ≡ true → Rs.Plain h }
 {
-    if wire::low_three(h) == 0 {
-        return is_number_kind(wire::eighth(h));
-    }
-    false
+    wire::low_three(h) == 0 && is_number_kind(wire::eighth(h))
 }
 
 // Whether the byte says a text by its offset, neither optional nor in place.
@@ -52,10 +47,7 @@ pub fn refers(b: &[u8], at: usize) -> bool
     ensures { result ≡ true → Rs.Refers (get_or b.now at 0) }
 {
     let h = wire::index(wire::byte_in(b, at));
-    if wire::low_three(h) == 0 {
-        return schema::is_object_kind(wire::eighth(h));
-    }
-    false
+    wire::low_three(h) == 0 && schema::is_object_kind(wire::eighth(h))
 }
 
 // ---- numbers, floats and enums, neither optional nor in place
@@ -79,13 +71,7 @@ fn lead_number(b: &[u8], m: &[u8], at: usize, x: Content, c: Cursor, h: usize) -
 {
     let w = plain_width(wire::eighth(h));
     let next = message_layout::after_bytes(c, w);
-    if x.length <= c.end {
-        return SteppedMember {
-            step: Step::Absent,
-            next,
-        };
-    }
-    if next.end <= x.length {
+    if x.length <= c.end || next.end <= x.length {
         return SteppedMember {
             step: Step::Absent,
             next,
@@ -111,10 +97,7 @@ pub struct Rows {
 fn is_row_member(h: usize) -> bool
     ensures { result ≡ true → Rs.RowMember h }
 {
-    if is_text_reference(h) {
-        return true;
-    }
-    is_plain(h)
+    is_text_reference(h) || is_plain(h)
 }
 
 // The bytes of a row table's member, by the first byte of its record.
@@ -133,12 +116,9 @@ fn all_row_members(b: &[u8], first: usize, count: usize) -> bool
     requires { (first < 65536) × (count < 256) × (first + 4 + 1 + 2 * count ≤ length b.now) }
     ensures { result ≡ true → Rs.RowMembers b.now first count }
 {
-    let mut j: usize = 0;
-    while j < count {
-        let at = schema::record_place(4, first, j);
-        if is_row_member(wire::index(wire::byte_in(b, at))) {
-            j += 1;
-        } else {
+    for j in 0..count {
+        let at = schema::record_place(schema::TABLE_HEAD, first, j);
+        if !is_row_member(wire::index(wire::byte_in(b, at))) {
             return false;
         }
     }
@@ -146,58 +126,54 @@ fn all_row_members(b: &[u8], first: usize, count: usize) -> bool
 }
 
 // Whether the object is a row table.
-pub fn is_row_table(b: &[u8], dir: &[u16], ob: Object) -> bool
-    requires { (Accepted b.now dir.now) × (ObjectSound (P.parse b.now) ob) }
-    ensures { result ≡ true → Rs.RowObject b.now ob }
+pub fn is_row_table(schema: &Schema, ob: Object) -> bool
+    requires { ObjectSound (parsed schema.now) ob }
+    ensures { result ≡ true → Rs.RowObject (bytes_of schema.now) ob }
 {
     match ob {
-        Object::Text => false,
-        Object::Bytes => false,
-        Object::List(_) => false,
         Object::Table(t) => {
-            let first = schema::table_place(b, dir, wire::index(t));
-            all_row_members(b, first, schema::records(b, 4, first))
+            let first = schema.packed.table_place(wire::index(t));
+            all_row_members(
+                schema.packed.bytes,
+                first,
+                schema::records(schema.packed.bytes, 4, first),
+            )
         }
-        Object::DirectList(_) => false,
+        _ => false,
     }
 }
 
 // Row table t, looked up once for all the tables of a list.
-pub fn rows_of(b: &[u8], dir: &[u16], t: u8) -> Rows
-    requires { (Accepted b.now dir.now) × (ObjectSound (P.parse b.now) (Object.Table t)) × (Rs.RowObject b.now (Object.Table t)) }
-    ensures { (result.table ≡ t) × Rs.RowTable b.now result }
+pub fn rows_of(schema: &Schema, t: u8) -> Rows
+    requires { (ObjectSound (parsed schema.now) (Object.Table t)) × (Rs.RowObject (bytes_of schema.now) (Object.Table t)) }
+    ensures { (result.table ≡ t) × Rs.RowTable (bytes_of schema.now) result }
 {
     let i = wire::index(t);
-    let first = schema::table_place(b, dir, i);
+    let first = schema.packed.table_place(i);
     Rows {
         table: t,
-        id: schema::table_id(b, dir, i),
+        id: schema.packed.table_id(i),
         first,
-        count: schema::records(b, 4, first),
+        count: schema::records(schema.packed.bytes, 4, first),
     }
 }
 
 // ---- any member
 // Member j of table t, before which the cursor stands: where it leads, and the cursor behind it.
-pub fn lead_member(
-    b: &[u8],
-    dir: &[u16],
-    m: &[u8],
-    t: usize,
-    j: usize,
-    x: Content,
-    c: Cursor,
-    o: usize,
-) -> SteppedMember
-    requires accepted { (Accepted b.now dir.now) × (Width o) × (t < P.table_count b.now) × (j < length (Sc.table_of (P.parse b.now) t).members) × (j < 256) }
-    requires length_in_bounds { (x.start + x.length ≤ length m.now) × (WithinSize m.now) × (Laid (4097 * j) c) }
-    ensures { Rs.Led o (P.parse b.now) m.now t j x c result.step result.next }
+pub fn lead_member(reading: &Reading, t: usize, j: usize, x: Content, c: Cursor) -> SteppedMember
+    requires in_bounds { (t < P.table_count (bytes_of reading.now.schema)) × (j < length (Sc.table_of (parsed reading.now.schema) t).members) × (j < 256) }
+    requires length_in_bounds { (x.start + x.length ≤ length reading.now.message.now) × (Laid (4097 * j) c) }
+    ensures { Rs.Led reading.now.schema.width (parsed reading.now.schema) reading.now.message.now t j x c result.step result.next }
 {
-    let at = schema::record_place(4, schema::table_place(b, dir, t), j);
-    let h = wire::index(wire::byte_in(b, at));
+    let at = schema::record_place(4, reading.schema.packed.table_place(t), j);
+    let h = wire::index(wire::byte_in(reading.schema.packed.bytes, at));
     if is_plain(h) {
-        return lead_number(b, m, at, x, c, h);
+        return lead_number(reading.schema.packed.bytes, reading.message, at, x, c, h);
     }
-    let r = schema::member(b, dir, t, j);
-    message_step::member_lead(b, dir, m, x.start, x.length, c, r, o)
+    let r = reading.schema.packed.member(t, j);
+    let part = coding::Content {
+        start: x.start,
+        length: x.length,
+    };
+    message_step::member_step::<{ message_step::LEAD }>(reading, part, c, r)
 }

@@ -1,4 +1,5 @@
 -- Members behind the end of the fixed part: once neither a bool nor another value can start within it, the rest is absent.
+use Rattle.std.specs.Prelude.{Ok}
 use mathlib.Core.Path.{◌≡◌, refl, ap, ◌∙◌}
 use mathlib.Core.Bool.{Bool, true, false}
 use mathlib.Core.List.{List, [], ◌∷◌}
@@ -17,7 +18,6 @@ use Rattle.coding.specs.declared.Slot.{Slot}
 use Rattle.coding.specs.declared.Step.{Step}
 use Rattle.coding.specs.declared.Step.TheVariants as St
 use Rattle.coding.specs.declared.Spent.{Spent}
-use Rattle.coding.specs.declared.Walked.TheVariants.{Going}
 use Rattle.laws.specs.Lists.{pick_holds}
 
 -- neither a bool nor another value that comes next starts within n bytes
@@ -65,7 +65,7 @@ module _ (o : ℕ) (S : Schema) (n : ℕ) (c : Cursor) (r : Member) (e : Ended n
       by false slot here h = simp (le-leb _ _ (h refl))
 
 pub members_past : (child : W.Child) (o : ℕ) (S : Schema) (m : List ℕ) (holder start n : ℕ) (c : Cursor) (j : ℕ) (rs : List Member) (v : Spent) → Ended n c
-    → W.members child o S m holder start n c j rs v ≡ Going v
+    → W.members child o S m holder start n c j rs v ≡ Ok v
 unfolding W.members W.and_then W.follow
 members_past child o S m holder start n c j [] v e = refl
 members_past child o S m holder start n c j (r ∷ rs) v e =

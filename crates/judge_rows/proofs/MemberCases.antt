@@ -1,4 +1,5 @@
 -- The members of a table, from one of them on.
+use Rattle.std.specs.Prelude.{Ok}
 use mathlib.Core.Path.{◌≡◌, refl, sym, ap, ◌∙◌}
 use mathlib.Core.List.{List}
 use Prim.Native.Nat.{ℕ, suc, ◌+◌, ◌<◌, ◌≤◌}
@@ -11,13 +12,12 @@ use Rattle.coding.specs.Schema.{Schema}
 use Rattle.coding.specs.Layout as L
 use Rattle.coding.specs.Step as T
 use Rattle.coding.specs.Walk as W
+use Rattle.coding.specs.Walk.{Walked}
 use Rattle.coding.specs.declared.Member.{Member}
 use Rattle.coding.specs.declared.Cursor.{Cursor}
 use Rattle.coding.specs.declared.Step.{Step}
 use Rattle.coding.specs.declared.Step.TheVariants as St
 use Rattle.coding.specs.declared.Spent.{Spent}
-use Rattle.coding.specs.declared.Walked.{Walked}
-use Rattle.coding.specs.declared.Walked.TheVariants.{Going}
 use Rattle.message_step.specs.Lead.{lead_of}
 use Rattle.outcome.specs.declared.Outcome.{Outcome}
 use Rattle.outcome.specs.Answers.{walked_of, left_of}
@@ -50,7 +50,7 @@ module _ (child : W.Child) (o : ℕ) (S : Schema) (m : List ℕ) (holder start n
   module _ (c : Cursor) (j : ℕ) (v : Spent)
       (inv : W.members child o S m holder start n L.begin 0 (Sc.table_of S t).members s ≡ W.members child o S m holder start n c j (drop j (Sc.table_of S t).members) v)
     where
-      pub members_ended : (x : ℕ) → x ≡ L.bit_byte c → x ≤ c.end → n ≤ x → (r : Walked) → r ≡ Going v
+      pub members_ended : (x : ℕ) → x ≡ L.bit_byte c → x ≤ c.end → n ≤ x → (r : Walked) → r ≡ Ok v
           → r ≡ W.members child o S m holder start n L.begin 0 (Sc.table_of S t).members s
       members_ended x ex l h r f =
           let ended : Ended n c = record { end = omega arith; byte = omega arith } in
@@ -59,7 +59,7 @@ module _ (child : W.Child) (o : ℕ) (S : Schema) (m : List ℕ) (holder start n
   module _ (c : Cursor) (j : ℕ) (v : Spent)
       (inv : W.members child o S m holder start n L.begin 0 (Sc.table_of S t).members s ≡ W.members child o S m holder start n c j (drop j (Sc.table_of S t).members) v)
       (count : ℕ) (ec : count ≡ length (Sc.table_of S t).members) where
-    pub members_done : count ≤ j → (r : Walked) → r ≡ Going v → r ≡ W.members child o S m holder start n L.begin 0 (Sc.table_of S t).members s
+    pub members_done : count ≤ j → (r : Walked) → r ≡ Ok v → r ≡ W.members child o S m holder start n L.begin 0 (Sc.table_of S t).members s
     unfolding W.members
     members_done h r f =
         let l : length (Sc.table_of S t).members ≤ j = omega arith in

@@ -1,4 +1,5 @@
 -- Row tables: the ways out of a member, and the turns through the members.
+use Rattle.std.specs.Prelude.{Ok}
 use mathlib.Core.Path.{◌≡◌, refl, sym, ap, ◌∙◌, subst}
 use mathlib.Core.Bool.{Bool, true, false}
 use mathlib.Core.List.{List}
@@ -14,6 +15,7 @@ use Rattle.coding.specs.Packed as P
 use Rattle.coding.specs.Layout as L
 use Rattle.coding.specs.Step as T
 use Rattle.coding.specs.Walk as W
+use Rattle.coding.specs.Walk.{Walked}
 use Rattle.coding.specs.declared.Object.{Object}
 use Rattle.coding.specs.declared.Object.TheVariants as O
 use Rattle.coding.specs.declared.Kind.TheVariants.{OfObject}
@@ -21,8 +23,6 @@ use Rattle.coding.specs.declared.Member.{Member}
 use Rattle.coding.specs.declared.Step.{Step}
 use Rattle.coding.specs.declared.Step.TheVariants as St
 use Rattle.coding.specs.declared.Spent.{Spent}
-use Rattle.coding.specs.declared.Walked.{Walked}
-use Rattle.coding.specs.declared.Walked.TheVariants.{Going}
 use Rattle.laws.specs.Sound.{ObjectSound}
 use Rattle.laws.specs.Parsed.{members-length}
 use Rattle.message_step.specs.Lead.{lead_of}
@@ -133,7 +133,7 @@ module _ (o : ℕ) (child : W.Child) (b m : List ℕ) (at j : ℕ) (c : Content)
         ∙ ap (T.struct_tested (P.parse b) m) (inside_here c.length end o St.Absent (T.object_step O.Text false 0 (le m (c.start + end) o)) l (omega arith)))
         (f ∙ ap (λ (q : ℕ). referred child O.Text q s) ey ∙ follow_offset child (P.parse b) m c.holder j O.Text (le m (c.start + end) o) s)
 
-    pub row_number : t ≡ false → r ≡ Going s
+    pub row_number : t ≡ false → r ≡ Ok s
         → r ≡ W.follow child c.holder j (T.member_step o (P.parse b) m c.start c.length (no_bool end) (P.member_at b at)) s
     unfolding W.follow
     row_number z f = by_lead St.Absent (plain_here b at x ex h eh t et o here z w ew lw m c end l g) f
@@ -172,11 +172,11 @@ module _ (o : ℕ) (child : W.Child) (b m : List ℕ) (x : Content) (k : Rows) (
     unfolding L.bit_byte
     no_bool_lem = refl
 
-    pub row_ended : x.length ≤ end → r ≡ Going v
+    pub row_ended : x.length ≤ end → r ≡ Ok v
         → r ≡ W.members child o (P.parse b) m x.holder x.start x.length L.begin 0 (Sc.table_of (P.parse b) k.table).members s
     row_ended h f = members_ended child o (P.parse b) m x.holder x.start x.length k.table s (no_bool end) j v inv end no_bool_lem (omega arith) h r f
 
-    pub row_done : k.count ≤ j → r ≡ Going v
+    pub row_done : k.count ≤ j → r ≡ Ok v
         → r ≡ W.members child o (P.parse b) m x.holder x.start x.length L.begin 0 (Sc.table_of (P.parse b) k.table).members s
     row_done h f = members_done child o (P.parse b) m x.holder x.start x.length k.table s (no_bool end) j v inv k.count (row_count b k lt) h r f
 

@@ -1,4 +1,5 @@
 -- The elements of a list, from one of them on.
+use Rattle.std.specs.Prelude.{Ok}
 use mathlib.Core.Path.{◌≡◌, refl, sym, ap, ◌∙◌}
 use mathlib.Core.Bool.{Bool, true, false}
 use mathlib.Core.List.{List}
@@ -12,6 +13,7 @@ use Rattle.coding.specs.Schema.{Schema}
 use Rattle.coding.specs.Layout as L
 use Rattle.coding.specs.Step as T
 use Rattle.coding.specs.Walk as W
+use Rattle.coding.specs.Walk.{Walked}
 use Rattle.coding.specs.declared.Object.{Object}
 use Rattle.coding.specs.declared.Kind.{Kind}
 use Rattle.coding.specs.declared.Kind.TheVariants.{OfObject}
@@ -19,8 +21,6 @@ use Rattle.coding.specs.declared.Place.TheVariants.{ByOffset}
 use Rattle.coding.specs.declared.Step.{Step}
 use Rattle.coding.specs.declared.Step.TheVariants as St
 use Rattle.coding.specs.declared.Spent.{Spent}
-use Rattle.coding.specs.declared.Walked.{Walked}
-use Rattle.coding.specs.declared.Walked.TheVariants.{Going}
 use Rattle.wire.specs.Products.{times_more, times-within}
 use Rattle.outcome.specs.declared.Outcome.{Outcome}
 use Rattle.outcome.specs.Answers.{walked_of, left_of, referred}
@@ -34,7 +34,7 @@ module _ (child : W.Child) (o : ℕ) (S : Schema) (m : List ℕ) (holder start :
       ap (λ (l : ℕ). W.elements child o S m holder start k l 0 s) z
 
   module _ (j : ℕ) (v : Spent) (inv : W.elements child o S m holder start k n 0 s ≡ W.elements child o S m holder start k (n - j) j v) where
-    pub elements_done : n ≤ j → (r : Walked) → r ≡ Going v → r ≡ W.elements child o S m holder start k n 0 s
+    pub elements_done : n ≤ j → (r : Walked) → r ≡ Ok v → r ≡ W.elements child o S m holder start k n 0 s
     unfolding W.elements
     elements_done h r f =
         let z : n - j ≡ 0 = omega arith in
@@ -71,7 +71,7 @@ value_next w start j at e = omega (arith, times_more w j)
 
 -- ---- the offsets of a list
 module _ (child : W.Child) (ob : Object) (x : ℕ) (s : Spent) (r : Walked) where
-  pub refer_none : x ≡ 0 → r ≡ Going s → r ≡ referred child ob x s
+  pub refer_none : x ≡ 0 → r ≡ Ok s → r ≡ referred child ob x s
   unfolding referred
   refer_none h f = simp (eq-eqb _ _ h) f
 
@@ -85,7 +85,7 @@ pub follow_offset : (child : W.Child) (S : Schema) (m : List ℕ) (holder j : �
 unfolding referred T.object_step T.place_of T.struct_tested W.follow
 follow_offset child S m holder j ob x s = by (eqb x 0)
   where
-    by : (t : Bool) → pick t (Going s) (child ob (ByOffset x) s) ≡ W.follow child holder j (T.struct_tested S m (pick t St.Absent (St.Object ob (ByOffset x)))) s
+    by : (t : Bool) → pick t (Ok s) (child ob (ByOffset x) s) ≡ W.follow child holder j (T.struct_tested S m (pick t St.Absent (St.Object ob (ByOffset x)))) s
     by true = refl
     by false = refl
 

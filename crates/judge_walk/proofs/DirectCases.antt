@@ -1,4 +1,5 @@
 -- The elements of a direct list, from one of them on.
+use Rattle.std.specs.Prelude.{Ok}
 use mathlib.Core.Path.{◌≡◌, sym, ap, ◌∙◌, subst}
 use mathlib.Core.List.{List}
 use Prim.Native.Nat.{ℕ, suc, ◌+◌, ◌-◌, ◌*◌, ◌^◌, ◌<◌, ◌≤◌}
@@ -6,12 +7,11 @@ use native.Mathlib.Nat.{mul_comm}
 use native.Mathlib.Omega.{arith}
 use Rattle.coding.specs.Packed as P
 use Rattle.coding.specs.Walk as W
+use Rattle.coding.specs.Walk.{Walked}
 use Rattle.coding.specs.declared.Object.{Object}
 use Rattle.coding.specs.declared.Object.TheVariants as O
 use Rattle.coding.specs.declared.Place.TheVariants.{InPlace}
 use Rattle.coding.specs.declared.Spent.{Spent}
-use Rattle.coding.specs.declared.Walked.{Walked}
-use Rattle.coding.specs.declared.Walked.TheVariants.{Going}
 use Rattle.laws.specs.Sound.{ObjectSound}
 use Rattle.outcome.specs.declared.Outcome.{Outcome}
 use Rattle.outcome.specs.Answers.{walked_of, left_of}
@@ -26,7 +26,7 @@ module _ (child : W.Child) (t w n start : ℕ) (s : Spent) where
       ap (λ (l : ℕ). W.directs child t w l start s) z
 
   module _ (j at : ℕ) (v : Spent) (inv : W.directs child t w n start s ≡ W.directs child t w (n - j) at v) where
-    pub directs_done : n ≤ j → (r : Walked) → r ≡ Going v → r ≡ W.directs child t w n start s
+    pub directs_done : n ≤ j → (r : Walked) → r ≡ Ok v → r ≡ W.directs child t w n start s
     unfolding W.directs
     directs_done h r f =
         let z : n - j ≡ 0 = omega arith in

@@ -1,4 +1,5 @@
 -- The ways out of the walkers of a list, one lemma for each.
+use Rattle.std.specs.Prelude.{Ok}
 use mathlib.Core.Path.{◌≡◌, refl, sym, ap, ◌∙◌, subst}
 use mathlib.Core.Bool.{Bool, true, false, ◌&&◌, not}
 use mathlib.Core.List.{List}
@@ -16,6 +17,7 @@ use Rattle.coding.specs.Packed as P
 use Rattle.coding.specs.Layout as L
 use Rattle.coding.specs.Step as T
 use Rattle.coding.specs.Walk as W
+use Rattle.coding.specs.Walk.{Walked}
 use Rattle.coding.specs.declared.Flat.{Flat}
 use Rattle.coding.specs.declared.Flat.TheVariants as F
 use Rattle.coding.specs.declared.Object.{Object}
@@ -26,8 +28,6 @@ use Rattle.coding.specs.declared.Place.TheVariants.{ByOffset}
 use Rattle.coding.specs.declared.Step.{Step}
 use Rattle.coding.specs.declared.Step.TheVariants as St
 use Rattle.coding.specs.declared.Spent.{Spent}
-use Rattle.coding.specs.declared.Walked.{Walked}
-use Rattle.coding.specs.declared.Walked.TheVariants.{Going}
 use Rattle.laws.specs.Sound.{NoStruct, ObjectSound, KindSound}
 use Rattle.laws.specs.SoundAt.{union_index, case_sound-at}
 use Rattle.schema.specs.Directory.{Accepted, accepted_sound}
@@ -42,31 +42,31 @@ use Rattle.judge_text.proofs.ElementCases.{elements_stopped, elements_turn}
 
 -- ---- elements that lead nowhere
 flat_follows : (child : W.Child) (holder j : ℕ) (S : Schema) (m : List ℕ) (k : Flat) (at bit : ℕ) (v : Spent) → NoStruct (OfFlat k)
-    → W.follow child holder j (T.struct_tested S m (T.flat_step m k true at bit)) v ≡ Going v
+    → W.follow child holder j (T.struct_tested S m (T.flat_step m k true at bit)) v ≡ Ok v
 unfolding T.flat_step T.float_step T.enum_step T.struct_tested W.follow
 flat_follows child holder j S m F.Boolean at bit v h = refl
 flat_follows child holder j S m (F.Integer s w) at bit v h = refl
 flat_follows child holder j S m (F.Float w) at bit v h = by (is_nan w (le m at w))
   where
-    by : (t : Bool) → W.follow child holder j (T.struct_tested S m (pick t St.Absent (St.Value (le m at w)))) v ≡ Going v
+    by : (t : Bool) → W.follow child holder j (T.struct_tested S m (pick t St.Absent (St.Value (le m at w)))) v ≡ Ok v
     by true = refl
     by false = refl
 flat_follows child holder j S m (F.Enumerated n) at bit v h = by (eqb (get_or m at 0) 255) (ltb (get_or m at 0) n)
   where
-    by : (t u : Bool) → W.follow child holder j (T.struct_tested S m (pick t St.Absent (pick u (St.Value (get_or m at 0)) (St.Unknown (get_or m at 0))))) v ≡ Going v
+    by : (t u : Bool) → W.follow child holder j (T.struct_tested S m (pick t St.Absent (pick u (St.Value (get_or m at 0)) (St.Unknown (get_or m at 0))))) v ≡ Ok v
     by true u = refl
     by false true = refl
     by false false = refl
 flat_follows child holder j S m (F.Struct i) at bit v h = absurd h
 
 first_goes : (child : W.Child) (o : ℕ) (S : Schema) (m : List ℕ) (holder start : ℕ) (k : Kind) (f : Flat) (i : ℕ) (s : Spent) → k ≡ OfFlat f → NoStruct k
-    → W.follow child holder i (T.element_step o S m k start i) s ≡ Going s
+    → W.follow child holder i (T.element_step o S m k start i) s ≡ Ok s
 unfolding T.element_step T.value_step
 first_goes child o S m holder start k f i s e h =
     rw e (flat_follows child holder i S m f (T.element_place o S (OfFlat f) start i) (i % 8) s (subst NoStruct e h))
 
 scalars_go : (child : W.Child) (o : ℕ) (S : Schema) (m : List ℕ) (holder start : ℕ) (k : Kind) (f : Flat) (n i : ℕ) (s : Spent) → k ≡ OfFlat f → NoStruct k
-    → Going s ≡ W.elements child o S m holder start k n i s
+    → Ok s ≡ W.elements child o S m holder start k n i s
 unfolding W.elements W.and_then
 scalars_go child o S m holder start k f zero i s e h = refl
 scalars_go child o S m holder start k f (suc n) i s e h =
@@ -75,7 +75,7 @@ scalars_go child o S m holder start k f (suc n) i s e h =
 
 -- ---- a list by the number of its element's kind
 pub list-flat : (o : ℕ) (b dir : List ℕ) → Accepted b dir → (child : W.Child) (m : List ℕ) (holder start i n : ℕ) (s : Spent) → i < P.list_count b → (at : ℕ) → at ≡ P.list_place b i
-    → (k : ℕ) → k ≡ P.kind_at b at → (t : Bool) → t ≡ ltb k 13 → t ≡ true → (r : Walked) → r ≡ Going s → r ≡ W.elements child o (P.parse b) m holder start (Sc.element_of (P.parse b) i) n 0 s
+    → (k : ℕ) → k ≡ P.kind_at b at → (t : Bool) → t ≡ ltb k 13 → t ≡ true → (r : Walked) → r ≡ Ok s → r ≡ W.elements child o (P.parse b) m holder start (Sc.element_of (P.parse b) i) n 0 s
 list-flat o b dir a child m holder start i n s l at ea k ek t et h r f =
     f ∙ scalars_go child o (P.parse b) m holder start (Sc.element_of (P.parse b) i) (P.flat_of k (P.argument_at b at)) n 0 s
     (sym (list_kind b i at l ea) ∙ element-flat b at k ek (ltb-true k 13 (sym et ∙ h))) ((accepted_sound b dir a).lists i).scalar
@@ -154,12 +154,12 @@ module _ (o : ℕ) (child : W.Child) (S : Schema) (m : List ℕ) (holder start i
   choices_turn f = elements_turn child o S m holder start (OfUnion i) n s j v inv h g by-choice f
 
 module _ (o : ℕ) (child : W.Child) (m : List ℕ) (holder j : ℕ) (cases : List Object) (at : ℕ) (s : Spent) (c : ℕ) (nc : Number m at 2 c) where
-  pub choice_none : c ≡ 0 → (r : Walked) → r ≡ Going s → r ≡ W.follow child holder j (T.union_step cases false 0 (le m at 2) (le m (at + 2) o)) s
+  pub choice_none : c ≡ 0 → (r : Walked) → r ≡ Ok s → r ≡ W.follow child holder j (T.union_step cases false 0 (le m at 2) (le m (at + 2) o)) s
   unfolding T.union_step W.follow
   choice_none h r f = simp (← nc.is, eq-eqb _ _ h) f
 
   module _ (h : c ≡ 0 → ⊥) (n : ℕ) (en : n ≡ length cases) where
-    pub choice-unknown : n < c → (r : Walked) → r ≡ Going s → r ≡ W.follow child holder j (T.union_step cases false 0 (le m at 2) (le m (at + 2) o)) s
+    pub choice-unknown : n < c → (r : Walked) → r ≡ Ok s → r ≡ W.follow child holder j (T.union_step cases false 0 (le m at 2) (le m (at + 2) o)) s
     unfolding T.union_step W.follow
     choice-unknown l r f = simp (← nc.is, ne_eqb _ _ h, ← en, lt-leb _ _ l) f
 

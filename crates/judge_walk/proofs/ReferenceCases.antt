@@ -1,4 +1,5 @@
 -- Members that are objects by their offset, neither optional nor in place, by the first byte of their record.
+use Rattle.std.specs.Prelude.{Ok}
 use mathlib.Core.Path.{◌≡◌, refl, sym, ap, ◌∙◌, subst}
 use mathlib.Core.Bool.{Bool, true, false}
 use mathlib.Core.List.{List}
@@ -14,6 +15,7 @@ use Rattle.coding.specs.Packed as P
 use Rattle.coding.specs.Layout as L
 use Rattle.coding.specs.Step as T
 use Rattle.coding.specs.Walk as W
+use Rattle.coding.specs.Walk.{Walked}
 use Rattle.coding.specs.declared.Object.{Object}
 use Rattle.coding.specs.declared.Object.TheVariants as O
 use Rattle.coding.specs.declared.Kind.{Kind}
@@ -23,8 +25,6 @@ use Rattle.coding.specs.declared.Cursor.{Cursor}
 use Rattle.coding.specs.declared.Step.{Step}
 use Rattle.coding.specs.declared.Step.TheVariants as St
 use Rattle.coding.specs.declared.Spent.{Spent}
-use Rattle.coding.specs.declared.Walked.{Walked}
-use Rattle.coding.specs.declared.Walked.TheVariants.{Going}
 use Rattle.laws.specs.Sound.{ObjectSound, MemberSound}
 use Rattle.message_layout.specs.Bounds.{Laid}
 use Rattle.schema.specs.Directory.{Accepted, Block}
@@ -74,7 +74,7 @@ module _ (o : ℕ) (child : W.Child) (b m : List ℕ) (at j : ℕ) (x : Content)
       g ∙ ap (λ (k : Step). W.follow child x.holder j k s)
       (sym (ap (T.member_step o (P.parse b) m x.start x.length c) (reference_is b at p) ∙ reference_step o (P.parse b) m x.start x.length c (P.object_at b at) ∙ f))
 
-  pub reference_past : x.length ≤ c.end → r ≡ Going s
+  pub reference_past : x.length ≤ c.end → r ≡ Ok s
       → r ≡ W.follow child x.holder j (T.member_step o (P.parse b) m x.start x.length c (P.member_at b at)) s
   unfolding W.follow T.inside T.struct_tested
   reference_past h f = by_step St.Absent (simp (le-leb _ _ h)) f

@@ -1,4 +1,5 @@
 -- The ways out of the walkers, one lemma for each, in the words of the walk's definition.
+use Rattle.std.specs.Prelude.{Ok}
 use mathlib.Core.Path.{◌≡◌, sym, ap, ◌∙◌, subst}
 use mathlib.Core.Bool.{Bool, true}
 use mathlib.Core.List.{List}
@@ -8,6 +9,7 @@ use Rattle.coding.specs.Schema as Sc
 use Rattle.coding.specs.Schema.{Schema}
 use Rattle.coding.specs.Layout as L
 use Rattle.coding.specs.Walk as W
+use Rattle.coding.specs.Walk.{Walked}
 use Rattle.coding.specs.declared.Object.{Object}
 use Rattle.coding.specs.declared.Object.TheVariants as O
 use Rattle.coding.specs.declared.Place.{Place}
@@ -15,8 +17,6 @@ use Rattle.coding.specs.declared.Place.TheVariants.{ByOffset, InPlace}
 use Rattle.coding.specs.declared.Step.{Step}
 use Rattle.coding.specs.declared.Step.TheVariants as St
 use Rattle.coding.specs.declared.Spent.{Spent}
-use Rattle.coding.specs.declared.Walked.{Walked}
-use Rattle.coding.specs.declared.Walked.TheVariants.{Going}
 use Rattle.laws.specs.Sound.{ObjectSound}
 use Rattle.message_step.specs.Lead.{PlaceSmall, StepSmall}
 use Rattle.outcome.specs.Left as Left
@@ -38,19 +38,19 @@ module _ (o d : ℕ) (S : Schema) (m : List ℕ) (ob : Object) (p : Place) (s : 
 -- ---- what a step leads to
 module _ (child : W.Child) (holder j : ℕ) (step : Step) (s : Spent) where
   module _ (r : Walked) where
-    pub follow_absent : step ≡ St.Absent → r ≡ Going s → r ≡ W.follow child holder j step s
+    pub follow_absent : step ≡ St.Absent → r ≡ Ok s → r ≡ W.follow child holder j step s
     unfolding W.follow
     follow_absent e f = rw e f
 
-    pub follow-value : (x : ℕ) → step ≡ St.Value x → r ≡ Going s → r ≡ W.follow child holder j step s
+    pub follow-value : (x : ℕ) → step ≡ St.Value x → r ≡ Ok s → r ≡ W.follow child holder j step s
     unfolding W.follow
     follow-value x e f = rw e f
 
-    pub follow-unknown : (x : ℕ) → step ≡ St.Unknown x → r ≡ Going s → r ≡ W.follow child holder j step s
+    pub follow-unknown : (x : ℕ) → step ≡ St.Unknown x → r ≡ Ok s → r ≡ W.follow child holder j step s
     unfolding W.follow
     follow-unknown x e f = rw e f
 
-    pub follow-struct : (i at : ℕ) → step ≡ St.Struct i at → r ≡ Going s → r ≡ W.follow child holder j step s
+    pub follow-struct : (i at : ℕ) → step ≡ St.Struct i at → r ≡ Ok s → r ≡ W.follow child holder j step s
     unfolding W.follow
     follow-struct i at e f = rw e f
 

@@ -9,20 +9,14 @@ ghost use Rattle.coding.specs.Schema as Sc;
 ghost use Rattle.coding.specs.Step as T;
 ghost use Rattle.coding.specs.Walk as W;
 ghost use Rattle.laws.specs.Sound.{ObjectSound};
-ghost use Rattle.schema.specs.Directory.{Accepted};
 ghost use Rattle.wire.specs.Sizes.{Width};
 ghost use Rattle.message_header.specs.Headers as Hs;
+ghost use Rattle.schema.specs.Parsed.{parsed, bytes_of};
 
-use coding::{Object, Opened};
+use coding::{Content, Object};
+use schema::{Reading, Schema};
 
 // ---- headers
-// What a header reader finds: a refusal's number, or where the content starts, and the length that the header gives.
-#[derive(Clone, Copy)]
-pub enum Header {
-    Refused(u8),
-    Content(usize, usize),
-}
-
 // The length in the header at `at`, behind its magic. Six bytes are the upper ones of the eight that end with them: one load.
 fn length_in(m: &[u8], at: usize, o: usize) -> usize
     requires { (Width o) × (at < 2 ^ 48) × (at + (4 + o) ≤ length m.now) }
@@ -34,28 +28,28 @@ fn length_in(m: &[u8], at: usize, o: usize) -> usize
     wire::offset_in(m, at + wire::MAGIC, o)
 }
 
-// A header of `size` bytes: a magic, and behind it a length.
-fn read_header(m: &[u8], at: usize, magic: u64, size: usize, o: usize) -> Header
+// What a header of `size` bytes gives, a magic and behind it a length: where the content starts and that length, or a refusal's number.
+#[tactic(auto, unfolding(crate::specs::Headers::header_of, coding::specs::Walk::start_size))]
+fn read_header(m: &[u8], at: usize, magic: u64, size: usize, o: usize) -> Result<Content, u8>
     requires { (Width o) × (at < 2 ^ 48) × (4 + o ≤ size) × (size < 2 ^ 16) }
     ensures { (result ≡ Hs.header_of o magic size m.now at) × Hs.Small result }
 {
-    if at < wire::start_size(o) {
-        return Header::Refused(6);
-    }
-    if m.len() < at + size {
-        return Header::Refused(6);
+    if at < wire::start_size(o) || m.len() < at + size {
+        return Err(6);
     }
     if wire::u32_in(m, at) != magic {
-        return Header::Refused(7);
+        return Err(7);
     }
-    Header::Content(at + size, length_in(m, at, o))
+    Ok(Content {
+        start: at + size,
+        length: length_in(m, at, o),
+    })
 }
 
+// Kept: five types beside each other, since magic, header length and header reader are to be each object type's own
+// (docs/DECISIONS.md, "Forms that paper 01 names"); what they share is `read_header`.
 // Text: length bytes and one zero byte.
-#[derive(Clone, Copy)]
-pub struct TextObject {
-    pub length: usize,
-}
+pub struct TextObject;
 
 impl TextObject {
     pub const MAGIC: u64 = 0xD812_C8F5;
@@ -68,7 +62,7 @@ impl TextObject {
         wire::MAGIC + o
     }
 
-    pub fn header(m: &[u8], at: usize, o: usize) -> Header
+    pub fn header(m: &[u8], at: usize, o: usize) -> Result<Content, u8>
         requires { (Width o) × (at < 2 ^ 48) }
         ensures { (result ≡ Hs.header_of o 0xD812C8F5 (4 + o) m.now at) × Hs.Small result }
     {
@@ -77,10 +71,7 @@ impl TextObject {
 }
 
 // Bytes: length bytes.
-#[derive(Clone, Copy)]
-pub struct BytesObject {
-    pub length: usize,
-}
+pub struct BytesObject;
 
 impl BytesObject {
     pub const MAGIC: u64 = 0xDCDB_BE10;
@@ -93,7 +84,7 @@ impl BytesObject {
         wire::MAGIC + o
     }
 
-    pub fn header(m: &[u8], at: usize, o: usize) -> Header
+    pub fn header(m: &[u8], at: usize, o: usize) -> Result<Content, u8>
         requires { (Width o) × (at < 2 ^ 48) }
         ensures { (result ≡ Hs.header_of o 0xDCDBBE10 (4 + o) m.now at) × Hs.Small result }
     {
@@ -102,10 +93,7 @@ impl BytesObject {
 }
 
 // List: length elements.
-#[derive(Clone, Copy)]
-pub struct ListObject {
-    pub length: usize,
-}
+pub struct ListObject;
 
 impl ListObject {
     pub const MAGIC: u64 = 0x3400_BB46;
@@ -118,7 +106,7 @@ impl ListObject {
         wire::MAGIC + o
     }
 
-    pub fn header(m: &[u8], at: usize, o: usize) -> Header
+    pub fn header(m: &[u8], at: usize, o: usize) -> Result<Content, u8>
         requires { (Width o) × (at < 2 ^ 48) }
         ensures { (result ≡ Hs.header_of o 0x3400BB46 (4 + o) m.now at) × Hs.Small result }
     {
@@ -127,10 +115,7 @@ impl ListObject {
 }
 
 // Table: length bytes of fixed part. Its magic is its id.
-#[derive(Clone, Copy)]
-pub struct TableObject {
-    pub length: usize,
-}
+pub struct TableObject;
 
 impl TableObject {
     // The bytes of its header: its magic, and a length.
@@ -141,7 +126,7 @@ impl TableObject {
         wire::MAGIC + o
     }
 
-    pub fn header(m: &[u8], at: usize, id: u64, o: usize) -> Header
+    pub fn header(m: &[u8], at: usize, id: u64, o: usize) -> Result<Content, u8>
         requires { (Width o) × (at < 2 ^ 48) }
         ensures { (result ≡ Hs.header_of o id (4 + o) m.now at) × Hs.Small result }
     {
@@ -151,10 +136,7 @@ impl TableObject {
 
 // Direct list: its elements stand behind each other without headers. The header says besides which table they are of, and the bytes of
 // each.
-#[derive(Clone, Copy)]
-pub struct DirectObject {
-    pub length: usize,
-}
+pub struct DirectObject;
 
 impl DirectObject {
     pub const MAGIC: u64 = 0xE2C6_CC05;
@@ -170,26 +152,24 @@ impl DirectObject {
         wire::MAGIC + o + 8
     }
 
-    pub fn header(m: &[u8], at: usize, id: u64, o: usize) -> Header
+    #[tactic(auto, unfolding(crate::specs::Headers::direct_header_of, crate::specs::Headers::header_of, coding::specs::Walk::element_id, coding::specs::Walk::most_elements))]
+    pub fn header(m: &[u8], at: usize, id: u64, o: usize) -> Result<Content, u8>
         requires { (Width o) × (at < 2 ^ 48) }
         ensures { (result ≡ Hs.direct_header_of o id m.now at) × Hs.Small result }
     {
-        match read_header(m, at, DirectObject::MAGIC, DirectObject::header_size(o), o) {
-            Header::Refused(e) => Header::Refused(e),
-            Header::Content(start, n) => {
-                if wire::number(m, at + wire::MAGIC + o, 4) != id {
-                    return Header::Refused(7);
-                }
-                if DirectObject::MOST < n {
-                    return Header::Refused(6);
-                }
-                Header::Content(start, n)
-            }
+        let found = read_header(m, at, DirectObject::MAGIC, DirectObject::header_size(o), o)?;
+        if wire::number(m, at + wire::MAGIC + o, 4) != id {
+            return Err(7);
         }
+        if DirectObject::MOST < found.length {
+            return Err(6);
+        }
+        Ok(found)
     }
 }
 
 // The bytes of each element of the direct list at `at`.
+#[tactic(auto, unfolding(coding::specs::Walk::element_size))]
 pub fn element_size(m: &[u8], at: usize, o: usize) -> usize
     requires { (Width o) × (at < 2 ^ 60) }
     ensures { (result ≡ W.element_size o m.now at) × (result < 2 ^ 32) }
@@ -207,97 +187,80 @@ pub fn text_size(n: usize) -> usize
 }
 
 // The bytes of the n elements of list i.
-pub fn list_size(b: &[u8], dir: &[u16], i: usize, n: usize, o: usize) -> usize
-    requires { (Accepted b.now dir.now) × (Width o) × (i < P.list_count b.now) × (n < 2 ^ 48) }
-    ensures { (result ≡ T.elements_size o (P.parse b.now) (Sc.element_of (P.parse b.now) i) n) × (result < 2 ^ 61) }
+pub fn list_size(schema: &Schema, i: usize, n: usize) -> usize
+    requires { (i < P.list_count (bytes_of schema.now)) × (n < 2 ^ 48) }
+    ensures { (result ≡ T.elements_size schema.now.width (parsed schema.now) (Sc.element_of (parsed schema.now) i) n) × (result < 2 ^ 61) }
 {
-    let k = schema::element(b, dir, i);
-    message_layout::elements_size(b, dir, k, n, o)
+    message_layout::elements_size(schema, schema.packed.element(i), n)
 }
 
 // What an object's content of length n adds to the content that is spent.
-pub fn content_length(b: &[u8], dir: &[u16], ob: Object, n: usize, o: usize) -> usize
-    requires { (Accepted b.now dir.now) × (Width o) × (ObjectSound (P.parse b.now) ob) × (n < 2 ^ 48) }
-    ensures { result ≡ W.content_length o (P.parse b.now) ob n }
+#[tactic(auto, unfolding(coding::specs::Walk::content_length))]
+pub fn content_length(schema: &Schema, ob: Object, n: usize) -> usize
+    requires { (ObjectSound (parsed schema.now) ob) × (n < 2 ^ 48) }
+    ensures { result ≡ W.content_length schema.now.width (parsed schema.now) ob n }
 {
     match ob {
         Object::Text => n,
         Object::Bytes => n,
-        Object::List(i) => list_size(b, dir, wire::index(i), n, o),
+        Object::List(i) => list_size(schema, usize::from(i), n),
         Object::Table(_) => n,
         Object::DirectList(_) => 0,
     }
 }
 
-// Content of `size` bytes and length n at `start`, if it fits.
-pub fn fits(m: &[u8], start: usize, size: usize, n: usize) -> Opened
-    requires { (start < 2 ^ 60) × (size < 2 ^ 61) }
-    ensures { result ≡ Hs.fitted m.now start size n }
+// Content of `size` bytes, if it fits.
+#[tactic(auto, unfolding(crate::specs::Headers::fitted))]
+pub fn fits(m: &[u8], c: Content, size: usize) -> Result<Content, u8>
+    requires { (c.start < 2 ^ 60) × (size < 2 ^ 61) }
+    ensures { result ≡ Hs.fitted m.now c.start size c.length }
 {
-    if start + size <= m.len() {
-        return Opened::Content(start, n);
+    if c.start + size <= m.len() {
+        Ok(c)
+    } else {
+        Err(6)
     }
-    Opened::Refused(6)
 }
 
-// The n elements of a direct list, of w bytes each, at `start`, if they fit. Their bytes together may be more than a number holds.
-fn fit_elements(m: &[u8], start: usize, w: usize, n: usize) -> Opened
-    ensures { result ≡ Hs.fitted m.now start (n * w) n }
+// The elements of a direct list, of w bytes each, if they fit. Their bytes together may be more than a number holds.
+#[tactic(auto, unfolding(crate::specs::Headers::fitted))]
+fn fit_elements(m: &[u8], c: Content, w: usize) -> Result<Content, u8>
+    ensures { result ≡ Hs.fitted m.now c.start (c.length * w) c.length }
 {
-    if m.len() < start {
-        return Opened::Refused(6);
+    if m.len() < c.start {
+        return Err(6);
     }
-    if w == 0 {
-        return Opened::Content(start, n);
+    if w == 0 || c.length <= (m.len() - c.start) / w {
+        return Ok(c);
     }
-    if n <= (m.len() - start) / w {
-        return Opened::Content(start, n);
-    }
-    Opened::Refused(6)
+    Err(6)
 }
 
-// The content of length n at `start` of the object at `at`, if it fits.
-pub fn fit_content(
-    b: &[u8],
-    dir: &[u16],
-    m: &[u8],
-    ob: Object,
-    at: usize,
-    start: usize,
-    n: usize,
-    o: usize,
-) -> Opened
-    requires { (Accepted b.now dir.now) × (Width o) × (ObjectSound (P.parse b.now) ob) × (at < 2 ^ 60) × (start < 2 ^ 60) × (n < 2 ^ 48) }
-    ensures { result ≡ W.fit_content o (P.parse b.now) m.now ob at start n }
+// The content that the object at `at` announces, if it fits.
+#[tactic(auto, unfolding(crate::specs::Headers::fitted, coding::specs::Walk::fit_content, coding::specs::Walk::content_size))]
+pub fn fit_content(reading: &Reading, ob: Object, at: usize, c: Content) -> Result<Content, u8>
+    requires { (ObjectSound (parsed reading.now.schema) ob) × (at < 2 ^ 60) × (c.start < 2 ^ 60) × (c.length < 2 ^ 48) }
+    ensures { result ≡ W.fit_content reading.now.schema.width (parsed reading.now.schema) reading.now.message.now ob at c.start c.length }
 {
+    let m = reading.message;
+    let n = c.length;
     match ob {
-        Object::Text => fits(m, start, text_size(n), n),
-        Object::Bytes => fits(m, start, n, n),
-        Object::List(i) => fits(m, start, list_size(b, dir, wire::index(i), n, o), n),
-        Object::Table(_) => fits(m, start, n, n),
-        Object::DirectList(_) => fit_elements(m, start, element_size(m, at, o), n),
+        Object::Text => fits(m, c, text_size(n)),
+        Object::Bytes | Object::Table(_) => fits(m, c, n),
+        Object::List(i) => fits(m, c, list_size(&reading.schema, usize::from(i), n)),
+        Object::DirectList(_) => fit_elements(m, c, element_size(m, at, reading.schema.width)),
     }
 }
 
 // ---- the bytes of content that fits
-// Whether a text of n bytes at `start` ends with its zero byte.
-fn text_ends(m: &[u8], start: usize, n: usize) -> bool
-    requires { start + n < length m.now }
-    ensures { result ≡ W.end_ok m.now Object.Text start n }
-{
-    wire::byte_in(m, start + n) == 0
-}
-
-// Whether the bytes of an object's content are right.
+// Whether the bytes of an object's content are right: a text ends with its zero byte.
+#[tactic(auto, unfolding(coding::specs::Walk::end_ok))]
 pub fn end_ok(m: &[u8], ob: Object, start: usize, n: usize) -> bool
     requires { Hs.EndInside m.now ob start n }
     ensures { result ≡ W.end_ok m.now ob start n }
 {
     match ob {
-        Object::Text => text_ends(m, start, n),
-        Object::Bytes => true,
-        Object::List(_) => true,
-        Object::Table(_) => true,
-        Object::DirectList(_) => true,
+        Object::Text => wire::byte_in(m, start + n) == 0,
+        _ => true,
     }
 }

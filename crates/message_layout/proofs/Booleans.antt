@@ -5,9 +5,8 @@ use mathlib.Core.List.{List, ◌∷◌}
 use Prim.Native.Nat.{ℕ, suc, ◌+◌, ◌<◌, ◌≤◌}
 use native.Mathlib.Omega.{arith}
 use native.Mathlib.Numerals.{add-one}
-use lib.ListN.{length, get_or, drop, drop_of_length-le}
+use lib.ListN.{length, drop, drop_of_length-le}
 use lib.Seq.{drop-cons}
-use lib.Dec.{leb}
 use borrow.Author.Tests.{not-true, not-false}
 use Rattle.coding.specs.Schema as Sc
 use Rattle.coding.specs.Schema.{Schema}
@@ -24,27 +23,6 @@ use Rattle.schema.specs.Directory.{Accepted, accepted_sound}
 use Rattle.schema.specs.Representatives.{Represents}
 
 -- ---- one member
-module _ (inner : ℕ → ℕ → Bool) (m : List ℕ) (k : Flat) (at : ℕ) where
-  pub field_boolean : k ≡ Boolean → (x : ℕ) → x ≡ get_or m at 0 → (r : Bool) → r ≡ leb x 1 → r ≡ flat_ok inner m k at
-  unfolding flat_ok
-  field_boolean e x ex r f = rw (e, ← ex) f
-
-  pub field_integer : (s : Bool) (w : ℕ) → k ≡ Integer s w → true ≡ flat_ok inner m k at
-  unfolding flat_ok
-  field_integer s w e = rw e
-
-  pub field_float : (w : ℕ) → k ≡ Float w → true ≡ flat_ok inner m k at
-  unfolding flat_ok
-  field_float w e = rw e
-
-  pub field-enum : (n : ℕ) → k ≡ Enumerated n → true ≡ flat_ok inner m k at
-  unfolding flat_ok
-  field-enum n e = rw e
-
-  pub field-struct : (i j : ℕ) → k ≡ Struct i → j ≡ i → (r : Bool) → r ≡ inner j at → r ≡ flat_ok inner m k at
-  unfolding flat_ok
-  field-struct i j e ej r f = rw (e, ← ej) f
-
 pub boolean-inside : (size : ℕ → ℕ) (k : Flat) (at n : ℕ) → k ≡ Boolean → at + flat_width size k ≤ n → at < n
 unfolding flat_width
 boolean-inside size k at n e h = let q = subst (λ (f : Flat). at + flat_width size f ≤ n) e h in omega arith

@@ -15,11 +15,10 @@ use Rattle.coding.specs.Step as T
 use Rattle.coding.specs.Structs.{flat_width, struct_size}
 use Rattle.coding.specs.declared.Flat.{Flat}
 use Rattle.coding.specs.declared.Flat.TheVariants as F
-use Rattle.coding.specs.declared.Object.{Object}
 use Rattle.coding.specs.declared.Kind.{Kind}
 use Rattle.coding.specs.declared.Kind.TheVariants.{OfFlat, OfObject, OfUnion}
 use Rattle.coding.specs.declared.Member.{Member}
-use Rattle.laws.specs.Sound.{Sound, FlatSound, ObjectSound, KindSound, MemberSound}
+use Rattle.laws.specs.Sound.{Sound, FlatSound, KindSound, MemberSound}
 use Rattle.laws.specs.SoundAt.{struct_index, union_index}
 use Rattle.schema.specs.Directory.{Accepted, accepted_sound}
 
@@ -47,19 +46,10 @@ module _ (c : ℕ) (k : Flat) (sound : FlatSound c k) (v w : ℕ) (ev : v ≡ w)
 pub struct-counted : (b : List ℕ) (k : Flat) (i j : ℕ) → FlatSound (length (P.parse b).structs) k → k ≡ F.Struct i → j ≡ i → j < P.struct_count b
 struct-counted b k i j sound e ej = rw ej (struct_index b i (subst (FlatSound (length (P.parse b).structs)) e sound))
 
-pub size_same : (S : Schema) (at n i j : ℕ) → j ≡ i → at + struct_size S i ≤ n → at + struct_size S j ≤ n
-size_same S at n i j e h = rw e h
-
-pub count_same : (i j n : ℕ) → j ≡ i → i < n → j < n
-count_same i j n e h = omega arith
-
 -- ---- kinds
 module _ (S : Schema) (k : Kind) (sound : KindSound S k) where
   pub flat_sound : (f : Flat) → k ≡ OfFlat f → FlatSound (length S.structs) f
   flat_sound f e = subst (KindSound S) e sound
-
-  pub object_sound : (ob : Object) → k ≡ OfObject ob → ObjectSound S ob
-  object_sound ob e = subst (KindSound S) e sound
 
 pub union-counted : (b : List ℕ) (k : Kind) (u i : ℕ) → KindSound (P.parse b) k → k ≡ OfUnion u → i ≡ u → i < P.union_count b
 union-counted b k u i sound e ei = rw ei (union_index b u (subst (KindSound (P.parse b)) e sound))
@@ -68,20 +58,6 @@ module _ (o : ℕ) (S : Schema) (k : Kind) (at n : ℕ) (fits : at + L.width o S
   pub flat_there : (f : Flat) → k ≡ OfFlat f → at + flat_width (struct_size S) f ≤ n
   unfolding L.width
   flat_there f e = subst (λ (q : Kind). at + L.width o S q ≤ n) e fits
-
-  pub object_there : (ob : Object) → k ≡ OfObject ob → at + o ≤ n
-  unfolding L.width
-  object_there ob e = subst (λ (q : Kind). at + L.width o S q ≤ n) e fits
-
-  pub union_there : (u : ℕ) → k ≡ OfUnion u → at + (2 + o) ≤ n
-  unfolding L.width
-  union_there u e = let h = subst (λ (q : Kind). at + L.width o S q ≤ n) e fits in omega arith
-
-  pub choice_there : (u : ℕ) → k ≡ OfUnion u → at + 2 ≤ n
-  choice_there u e = omega (arith, union_there u e)
-
-  pub offset_there : (u : ℕ) → k ≡ OfUnion u → at + 2 + o ≤ n
-  offset_there u e = omega (arith, union_there u e)
 
 -- ---- widths are small, and not 0
 flat_some : (S : Schema) → Sound S → (f : Flat) → FlatSound (length S.structs) f → 0 < flat_width (struct_size S) f

@@ -1,6 +1,6 @@
 -- A member's step by its reach; then its struct is tested, and the cursor stands behind it.
-use mathlib.Core.Path.{◌≡◌, sym, ap, ◌∙◌}
-use mathlib.Core.Bool.{Bool}
+use mathlib.Core.Path.{◌≡◌, refl, sym, ap, ◌∙◌}
+use mathlib.Core.Bool.{Bool, true, false}
 use mathlib.Core.List.{List}
 use Prim.Native.Nat.{ℕ, ◌+◌, ◌^◌, ◌<◌, ◌≤◌}
 use native.Mathlib.Omega.{arith}
@@ -17,9 +17,9 @@ use Rattle.coding.specs.declared.Step.TheVariants as St
 use Rattle.message_layout.specs.Bounds.{Laid, Stands}
 use Rattle.message_step.specs.declared.Reach.{Reach}
 use Rattle.message_step.specs.declared.Reach.TheVariants.{Cut, Past, Here}
-use Rattle.message_step.specs.Lead.{lead_of, without_value, value_lead, reach_of, reached, Sits, Stepped}
+use Rattle.message_step.specs.Lead.{without_value, seen, told, reach_of, reached, Sits, Stepped}
 use Rattle.message_step.proofs.ReachCases.{step-reached, slot-size, here-inside}
-use Rattle.message_step.proofs.LeadCases.{value_led, lead_tested}
+use Rattle.message_step.proofs.LeadCases.{told_tested}
 
 -- ---- by its placement
 module _ (o : ℕ) (S : Schema) (m : List ℕ) (start n : ℕ) (p : Placement) (r : Member) (flag : Bool) (ef : flag ≡ L.has_flag r)
@@ -31,38 +31,31 @@ module _ (o : ℕ) (S : Schema) (m : List ℕ) (start n : ℕ) (p : Placement) (
   reached_is : T.placed_step o S m start n p r ≡ reached g here
   reached_is = step-reached o S m start n p r ∙ sym (ap (λ (q : Reach). reached q here) (eg ∙ ap (reach_of m start n p) ef))
 
-  module _ (e : g ≡ Cut) where
-    pub step_cut : St.Refused 8 ≡ T.placed_step o S m start n p r
+  seen_reached : (t : Bool) {q : Reach} → g ≡ q → reached q (seen t here) ≡ seen t (T.placed_step o S m start n p r)
+  unfolding reached without_value
+  seen_reached t {q} e = by t q here ∙ sym (ap (seen t) (reached_is ∙ ap (λ (y : Reach). reached y here) e))
+    where
+      by : (t : Bool) (q : Reach) (s : Step) → reached q (seen t s) ≡ seen t (reached q s)
+      by true q s = refl
+      by false Cut s = refl
+      by false Past s = refl
+      by false Here s = refl
+
+  module _ (t : Bool) where
+    pub step_cut : g ≡ Cut → St.Refused 8 ≡ seen t (T.placed_step o S m start n p r)
     unfolding reached
-    step_cut = sym (reached_is ∙ ap (λ (q : Reach). reached q here) e)
+    step_cut e = seen_reached t e
 
-    pub lead-cut : St.Refused 8 ≡ without_value (T.placed_step o S m start n p r)
-    unfolding without_value
-    lead-cut = ap without_value step_cut
-
-  module _ (e : g ≡ Past) where
-    pub step_past : St.Absent ≡ T.placed_step o S m start n p r
+    pub step_past : g ≡ Past → St.Absent ≡ seen t (T.placed_step o S m start n p r)
     unfolding reached
-    step_past = sym (reached_is ∙ ap (λ (q : Reach). reached q here) e)
+    step_past e = seen_reached t e
 
-    pub lead_past : St.Absent ≡ without_value (T.placed_step o S m start n p r)
-    unfolding without_value
-    lead_past = ap without_value step_past
+    pub step_here : g ≡ Here → (s : Step) → s ≡ seen t (T.value_step o S m r.kind r.optional r.inplace (start + n) (start + p.value.at) p.value.bit)
+        → s ≡ seen t (T.placed_step o S m start n p r)
+    unfolding reached
+    step_here e s q = q ∙ seen_reached t e
 
   module _ (e : g ≡ Here) where
-    here_is : here ≡ T.placed_step o S m start n p r
-    unfolding reached
-    here_is = sym (reached_is ∙ ap (λ (q : Reach). reached q here) e)
-
-    pub step_here : (s : Step) → s ≡ T.value_step o S m r.kind r.optional r.inplace (start + n) (start + p.value.at) p.value.bit
-        → s ≡ T.placed_step o S m start n p r
-    step_here s q = q ∙ here_is
-
-    pub lead_here : (s : Step) → s ≡ value_lead o S m r.kind r.inplace (start + n) (start + p.value.at)
-        → s ≡ without_value (T.placed_step o S m start n p r)
-    lead_here s q =
-        q ∙ sym (value_led o S m r.kind r.optional r.inplace (start + n) (start + p.value.at) p.value.bit) ∙ ap without_value here_is
-
     -- it lies within the message
     pub value-inside : Sits (L.width o S r.kind) p → start + n ≤ length m → start + p.value.at + L.width o S r.kind ≤ length m
     value-inside sits h = omega (arith, sits.size, here-inside m start n p flag g eg e)
@@ -91,25 +84,14 @@ module _ (o : ℕ) (S : Schema) (m : List ℕ) (start n : ℕ) (c : Cursor) (r :
       let l = h.end in
       record { end = omega arith; byte = h.byte; bit = h.bit }
 
-  module _ (eq : q ≡ L.placement_of o S r c) (found s : Step) where
-    pub member-stepped : found ≡ T.placed_step o S m start n q r → s ≡ T.struct_tested S m found
-        → Stepped (T.member_step o S m start n c r) (L.after_member o S r c) c.end s next
-    unfolding T.member_step
-    member-stepped e f =
-        record {
-          step_is = f ∙ ap (T.struct_tested S m) (e ∙ ap (λ (y : Placement). T.placed_step o S m start n y r) eq);
-          next_is = stands.next_is;
-          laid = laid_more;
-        }
-
-    pub member_led : found ≡ without_value (T.placed_step o S m start n q r) → s ≡ lead_of (T.struct_tested S m found)
-        → Stepped (lead_of (T.member_step o S m start n c r)) (L.after_member o S r c) c.end s next
-    unfolding T.member_step
-    member_led e f =
-        record {
-          step_is =
-              f ∙ ap (λ (x : Step). lead_of (T.struct_tested S m x)) (e ∙ ap (λ (y : Placement). without_value (T.placed_step o S m start n y r)) eq)
-              ∙ lead_tested S m (T.placed_step o S m start n (L.placement_of o S r c) r);
-          next_is = stands.next_is;
-          laid = laid_more;
-        }
+  pub member-stepped : q ≡ L.placement_of o S r c → (t : Bool) (found s : Step) → found ≡ seen t (T.placed_step o S m start n q r) → s ≡ told t (T.struct_tested S m found)
+      → Stepped (told t (T.member_step o S m start n c r)) (L.after_member o S r c) c.end s next
+  unfolding T.member_step
+  member-stepped eq t found s e f =
+      record {
+        step_is =
+            f ∙ ap (λ (x : Step). told t (T.struct_tested S m x)) (e ∙ ap (λ (y : Placement). seen t (T.placed_step o S m start n y r)) eq)
+            ∙ told_tested t S m (T.placed_step o S m start n (L.placement_of o S r c) r);
+        next_is = stands.next_is;
+        laid = laid_more;
+      }

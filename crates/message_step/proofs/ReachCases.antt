@@ -1,11 +1,11 @@
--- Whether a member's value is there: the ways out, and what a step is by them.
+-- Whether a member's value is there, and what a step is by it.
 use mathlib.Core.Path.{◌≡◌, refl, sym, ◌∙◌}
 use mathlib.Core.Bool.{Bool, true, false}
 use mathlib.Core.List.{List}
-use Prim.Native.Nat.{ℕ, ◌+◌, ◌<◌, ◌≤◌}
+use Prim.Native.Nat.{ℕ, ◌+◌, ◌≤◌}
 use native.Mathlib.Omega.{arith}
 use lib.Dec.{leb, eqb}
-use borrow.Author.Tests.{le-leb, lt-leb, leb-true}
+use borrow.Author.Tests.{leb-true}
 use Rattle.coding.specs.Lists.{pick}
 use Rattle.coding.specs.Bytes.{bit_at}
 use Rattle.coding.specs.Schema.{Schema}
@@ -24,42 +24,6 @@ use Rattle.coding.specs.declared.Step.TheVariants as St
 use Rattle.message_step.specs.declared.Reach.{Reach}
 use Rattle.message_step.specs.declared.Reach.TheVariants.{Cut, Past, Here}
 use Rattle.message_step.specs.Lead.{reach_in, reach_flagged, reach_of, reached}
-
-module _ (n : ℕ) (slot : Slot) (past here : Reach) where
-  pub in_past : n ≤ slot.at → past ≡ reach_in n slot past here
-  unfolding reach_in
-  in_past h = simp (le-leb _ _ h)
-
-  module _ (h : slot.at < n) where
-    pub in_here : slot.at + slot.size ≤ n → here ≡ reach_in n slot past here
-    unfolding reach_in
-    in_here l = simp (lt-leb _ _ h, le-leb _ _ l)
-
-    pub in_cut : n < slot.at + slot.size → Cut ≡ reach_in n slot past here
-    unfolding reach_in
-    in_cut l = simp (lt-leb _ _ h, lt-leb _ _ l)
-
-pub flag_past : (m : List ℕ) (start n : ℕ) (flag slot : Slot) → n ≤ flag.at → Past ≡ reach_flagged m start n flag slot
-unfolding reach_flagged
-flag_past m start n flag slot h = simp (le-leb _ _ h)
-
-module _ (m : List ℕ) (start n : ℕ) (flag slot : Slot) (r : Reach) (h : flag.at < n) (t : Bool) (et : t ≡ eqb (bit_at m (start + flag.at) flag.bit) 1) where
-  pub flag-set : t ≡ true → r ≡ reach_in n slot Cut Here → r ≡ reach_flagged m start n flag slot
-  unfolding reach_flagged
-  flag-set f e = simp (lt-leb _ _ h, ← et, f) e
-
-  pub flag_clear : t ≡ false → r ≡ reach_in n slot Past Past → r ≡ reach_flagged m start n flag slot
-  unfolding reach_flagged
-  flag_clear f e = simp (lt-leb _ _ h, ← et, f) e
-
-module _ (m : List ℕ) (start n : ℕ) (p : Placement) (flagged : Bool) (r : Reach) where
-  pub reach_flag : flagged ≡ true → r ≡ reach_flagged m start n p.flag p.value → r ≡ reach_of m start n p flagged
-  unfolding reach_of
-  reach_flag f e = simp f e
-
-  pub reach-plain : flagged ≡ false → r ≡ reach_in n p.value Past Here → r ≡ reach_of m start n p flagged
-  unfolding reach_of
-  reach-plain f e = simp f e
 
 -- ---- a value that is here lies inside the fixed part
 in-inside : (n : ℕ) (slot : Slot) (past : Reach) → (past ≡ Here → ⊥) → (here : Reach) → reach_in n slot past here ≡ Here → slot.at + slot.size ≤ n

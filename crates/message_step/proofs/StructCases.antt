@@ -25,7 +25,7 @@ use Rattle.laws.specs.Sound.{FlatSound, KindSound, MemberSound}
 use Rattle.laws.specs.SoundAt.{struct_index}
 use Rattle.message_step.specs.declared.Reach.{Reach}
 use Rattle.message_step.specs.declared.Reach.TheVariants.{Cut, Past, Here}
-use Rattle.message_step.specs.Lead.{without_value, reach_of, reached, StructInside, Sits}
+use Rattle.message_step.specs.Lead.{without_value, seen, reach_of, reached, StructInside, Sits}
 use Rattle.message_step.proofs.ReachCases.{step-reached, here-inside}
 use Rattle.message_step.proofs.StepCases.{element_there}
 
@@ -75,9 +75,6 @@ module _ (o : ℕ) (b m : List ℕ) (start n : ℕ) (p : Placement) (r : Member)
           value-inside_all o b m r.kind r.optional r.inplace (start + n) (start + p.value.at) p.value.bit sound.kind
           (omega (arith, sits.size, here-inside m start n p (L.has_flag r) Here e refl))
 
-  pub found_step : (s : Step) → s ≡ T.placed_step o (P.parse b) m start n p r → StructInside b m s
-  found_step s e = subst (StructInside b m) (sym e) placed-inside
-
   without-inside : (s : Step) → StructInside b m s → StructInside b m (without_value s)
   unfolding without_value
   without-inside (St.Refused e) h = tt
@@ -88,19 +85,6 @@ module _ (o : ℕ) (b m : List ℕ) (start n : ℕ) (p : Placement) (r : Member)
   without-inside (St.Object ob q) h = tt
   without-inside (St.Choice c ob q) h = tt
 
-  pub found_lead : (s : Step) → s ≡ without_value (T.placed_step o (P.parse b) m start n p r) → StructInside b m s
-  found_lead s e = subst (StructInside b m) (sym e) (without-inside (T.placed_step o (P.parse b) m start n p r) placed-inside)
-
--- what a step says of its struct
-module _ (b m : List ℕ) (s : Step) (inside : StructInside b m s) (i at : ℕ) (e : s ≡ St.Struct i at) where
-  pub found_index : i < P.struct_count b
-  found_index = (subst (StructInside b m) e inside).0
-
-  pub found-end : at + struct_size (P.parse b) i ≤ length m
-  found-end = (subst (StructInside b m) e inside).1
-
-  pub found_index-of : (j : ℕ) → j ≡ i → j < P.struct_count b
-  found_index-of j f = let h = found_index in omega arith
-
-  pub found-end-of : (j : ℕ) → j ≡ i → at + struct_size (P.parse b) j ≤ length m
-  found-end-of j f = rw f found-end
+  pub found_step : (t : Bool) (s : Step) → s ≡ seen t (T.placed_step o (P.parse b) m start n p r) → StructInside b m s
+  found_step true s e = subst (StructInside b m) (sym e) placed-inside
+  found_step false s e = subst (StructInside b m) (sym e) (without-inside (T.placed_step o (P.parse b) m start n p r) placed-inside)

@@ -1,15 +1,12 @@
 -- A step as judging needs it: where it leads, or why it is refused. A value, an unknown number and a struct lead nowhere.
-use Rattle.std.specs.Prelude.{◌≡◌, ℕ, ◌+◌, ◌^◌, ◌<◌, ◌≤◌, Bool, List, leb, eqb, length}
+use Rattle.std.specs.Prelude.{◌≡◌, ℕ, ◌+◌, ◌^◌, ◌<◌, ◌≤◌, Bool, true, false, List, leb, eqb, length}
 use Rattle.coding.specs.Lists.{pick}
-use Rattle.coding.specs.Bytes.{le, bit_at}
-use Rattle.coding.specs.Schema.{Schema, cases_of}
+use Rattle.coding.specs.Bytes.{bit_at}
+use Rattle.coding.specs.Schema.{Schema}
 use Rattle.coding.specs.Packed.{struct_count, parse}
 use Rattle.coding.specs.Structs.{struct_size}
-use Rattle.coding.specs.Step.{object_step, union_step}
 use Rattle.coding.specs.declared.Flat.{Flat}
 use Rattle.coding.specs.declared.Flat.TheVariants as F
-use Rattle.coding.specs.declared.Kind.{Kind}
-use Rattle.coding.specs.declared.Kind.TheVariants.{OfFlat, OfObject, OfUnion}
 use Rattle.coding.specs.declared.Cursor.{Cursor}
 use Rattle.coding.specs.declared.Placement.{Placement}
 use Rattle.coding.specs.declared.Slot.{Slot}
@@ -41,18 +38,22 @@ without_value (St.Struct i at) = St.Struct i at
 without_value (St.Object ob p) = St.Object ob p
 without_value (St.Choice c ob p) = St.Choice c ob p
 
+-- a step before its struct is tested: as a whole, or without the value
+abbrev pub seen : Bool → Step → Step
+seen true s = s
+seen false s = without_value s
+
+-- a step: as a whole, or where it leads
+abbrev pub told : Bool → Step → Step
+told true s = s
+told false s = lead_of s
+
 unfoldable pub flat_lead : Flat → ℕ → Step
 flat_lead F.Boolean at = St.Absent
 flat_lead (F.Integer s w) at = St.Absent
 flat_lead (F.Float w) at = St.Absent
 flat_lead (F.Enumerated n) at = St.Absent
 flat_lead (F.Struct i) at = St.Struct i at
-
--- where the value at a place leads, whichever bit of it and whether or not a NaN is a value
-unfoldable pub value_lead : ℕ → Schema → List ℕ → Kind → Bool → ℕ → ℕ → Step
-value_lead o S m (OfFlat k) inplace tail at = flat_lead k at
-value_lead o S m (OfObject ob) inplace tail at = object_step ob inplace tail (le m at o)
-value_lead o S m (OfUnion i) inplace tail at = without_value (union_step (cases_of S i) inplace tail (le m at 2) (le m (at + 2) o))
 
 -- ---- whether a value is there: cut by the fixed part's end, past it or without its flag, or here
 unfoldable pub reach_in : ℕ → Slot → Reach → Reach → Reach

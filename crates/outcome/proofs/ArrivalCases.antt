@@ -1,4 +1,5 @@
 -- What an arrival and its content are charged, and the ways out of an arrival that was charged.
+use Rattle.std.specs.Prelude.{Result, Ok, Err}
 use mathlib.Core.Path.{◌≡◌, refl, sym, ap, ◌∙◌}
 use mathlib.Core.Bool.{Bool, true, false}
 use mathlib.Core.List.{List}
@@ -12,15 +13,13 @@ use Rattle.coding.specs.Schema as Sc
 use Rattle.coding.specs.Schema.{Schema}
 use Rattle.coding.specs.Layout as L
 use Rattle.coding.specs.Walk as W
+use Rattle.coding.specs.Walk.{Walked}
 use Rattle.coding.specs.declared.Object.{Object}
 use Rattle.coding.specs.declared.Object.TheVariants as O
 use Rattle.coding.specs.declared.Place.{Place}
 use Rattle.coding.specs.declared.Place.TheVariants.{ByOffset}
-use Rattle.coding.specs.declared.Opened.{Opened}
-use Rattle.coding.specs.declared.Opened.TheVariants as Op
+use Rattle.coding.specs.declared.Content.{Content}
 use Rattle.coding.specs.declared.Spent.{Spent}
-use Rattle.coding.specs.declared.Walked.{Walked}
-use Rattle.coding.specs.declared.Walked.TheVariants.{Going}
 use Rattle.outcome.specs.declared.Outcome.{Outcome}
 use Rattle.outcome.specs.Left as Left
 use Rattle.outcome.specs.Answers.{walked_of, left_of, within, charged, text_tested}
@@ -44,7 +43,7 @@ module _ (d at v c : ℕ) (r : Walked) where
     unfolding charged Left.counted W.placed within W.too_deep Left.one_less
     charge_deep z f = simp (lt-ltb 0 v some, z) f
 
-    pub charge_going : (d ≡ 0 → ⊥) → r ≡ Going (W.spending (v - 1) c) → r ≡ charged d at (W.spending v c)
+    pub charge_going : (d ≡ 0 → ⊥) → r ≡ Ok (W.spending (v - 1) c) → r ≡ charged d at (W.spending v c)
     unfolding charged Left.counted within Left.one_less
     charge_going z f = by d z
       where
@@ -57,7 +56,7 @@ pub charged_deep : (d at : ℕ) (s : Spent) (g : Outcome) → walked_of g ≡ ch
 unfolding charged Left.counted within W.too_deep W.refuse
 charged_deep d at s g eg z = by d (ltb 0 s.visits) (sym (is_going g z) ∙ eg)
   where
-    by : (k : ℕ) (t : Bool) → Going (left_of g) ≡ pick t (within k O.Text (ByOffset at) (Left.one_less s)) (W.refuse 4 (W.placed (ByOffset at)) s) → 0 < k
+    by : (k : ℕ) (t : Bool) → Ok (left_of g) ≡ pick t (within k O.Text (ByOffset at) (Left.one_less s)) (W.refuse 4 (W.placed (ByOffset at)) s) → 0 < k
     by zero true e = let y : ◌≡◌ {A = ℕ} 0 1 = cc in absurd (omega arith)
     by zero false e = let y : ◌≡◌ {A = ℕ} 0 1 = cc in absurd (omega arith)
     by (suc k) t e = omega arith
@@ -77,7 +76,7 @@ module _ (o : ℕ) (S : Schema) (m : List ℕ) (ob : Object) (p : Place) (d : �
       none true u next = refl
       none false u next = refl
 
-      some : (t : Bool) (u : Spent) (next : Spent → Walked) → pick t (next u) (W.refuse 4 (W.placed p) s) ≡ W.and_then (pick t (Going u) (W.refuse 4 (W.placed p) s)) next
+      some : (t : Bool) (u : Spent) (next : Spent → Walked) → pick t (next u) (W.refuse 4 (W.placed p) s) ≡ W.and_then (pick t (Ok u) (W.refuse 4 (W.placed p) s)) next
       some true u next = refl
       some false u next = refl
 
@@ -96,26 +95,26 @@ module _ (o : ℕ) (S : Schema) (m : List ℕ) (ob : Object) (p : Place) (d : �
     pub visit_stopped : (g.code ≡ 0 → ⊥) → walked_of g ≡ Left.visit d o S m ob p s
     visit_stopped f = sym (is-charged ∙ stops g opened f)
 
-    module _ (z : g.code ≡ 0) (q : Opened) (eq : q ≡ W.fit_object o S m ob p) (r : Walked) where
+    module _ (z : g.code ≡ 0) (q : Result Content ℕ) (eq : q ≡ W.fit_object o S m ob p) (r : Walked) where
       pub visit-found : r ≡ Left.admit (Left.visit (d - 1) o S m) o S m ob at q (left_of g) → r ≡ Left.visit d o S m ob p s
       unfolding Left.arrive
       visit-found f =
           f ∙ ap (λ (i : ℕ). Left.admit (Left.visit (d - 1) o S m) o S m ob i q (left_of g)) e
-          ∙ ap (λ (w : Opened). Left.admit (Left.visit (d - 1) o S m) o S m ob (W.placed p) w (left_of g)) eq
+          ∙ ap (λ (w : Result Content ℕ). Left.admit (Left.visit (d - 1) o S m) o S m ob (W.placed p) w (left_of g)) eq
           ∙ sym (is-charged ∙ goes g opened z)
 
-      pub visit_refused : (n : ℕ) → q ≡ Op.Refused n → r ≡ W.refuse n at (left_of g) → r ≡ Left.visit d o S m ob p s
+      pub visit_refused : (n : ℕ) → q ≡ Err n → r ≡ W.refuse n at (left_of g) → r ≡ Left.visit d o S m ob p s
       unfolding Left.admit
-      visit_refused n ew f = visit-found (f ∙ sym (ap (λ (w : Opened). Left.admit (Left.visit (d - 1) o S m) o S m ob at w (left_of g)) ew))
+      visit_refused n ew f = visit-found (f ∙ sym (ap (λ (w : Result Content ℕ). Left.admit (Left.visit (d - 1) o S m) o S m ob at w (left_of g)) ew))
 
 -- ---- content that fits is charged, and then its bytes are tested
 module _ (child : W.Child) (o : ℕ) (S : Schema) (m : List ℕ) (ob : Object) (holder start n : ℕ) (v c k : ℕ) (ek : k ≡ W.content_length o S ob n) where
-  pub admit_past : c < k → (r : Walked) → r ≡ W.refuse 17 holder (W.spending v c) → r ≡ Left.admit child o S m ob holder (Op.Content start n) (W.spending v c)
+  pub admit_past : c < k → (r : Walked) → r ≡ W.refuse 17 holder (W.spending v c) → r ≡ Left.admit child o S m ob holder (Ok (W.content_at start n)) (W.spending v c)
   unfolding Left.admit
   admit_past h r f = simp (← ek, lt-leb k c h) f
 
-  pub admit_entered : k ≤ c → (r : Walked) → r ≡ W.enter child o S m ob holder (W.bytes_tested m ob (Op.Content start n)) (W.spending v (c - k))
-      → r ≡ Left.admit child o S m ob holder (Op.Content start n) (W.spending v c)
+  pub admit_entered : k ≤ c → (r : Walked) → r ≡ W.enter child o S m ob holder (W.bytes_tested m ob (Ok (W.content_at start n))) (W.spending v (c - k))
+      → r ≡ Left.admit child o S m ob holder (Ok (W.content_at start n)) (W.spending v c)
   unfolding Left.admit Left.less_content
   admit_entered h r f = simp (← ek, le-leb k c h) f
 
@@ -125,66 +124,66 @@ module _ (o : ℕ) (S : Schema) (m : List ℕ) (ob : Object) (x d : ℕ) (s : Sp
   unfolding W.placed
   offset_stopped f = visit_stopped o S m ob (ByOffset x) d s x refl g eg f
 
-  module _ (z : g.code ≡ 0) (q : Opened) (eq : q ≡ W.fit_object o S m ob (ByOffset x)) where
-    pub offset_refused : (r : Walked) (n : ℕ) → q ≡ Op.Refused n → r ≡ W.refuse n x (left_of g) → r ≡ Left.visit d o S m ob (ByOffset x) s
+  module _ (z : g.code ≡ 0) (q : Result Content ℕ) (eq : q ≡ W.fit_object o S m ob (ByOffset x)) where
+    pub offset_refused : (r : Walked) (n : ℕ) → q ≡ Err n → r ≡ W.refuse n x (left_of g) → r ≡ Left.visit d o S m ob (ByOffset x) s
     unfolding W.placed
     offset_refused r n ew f = visit_refused o S m ob (ByOffset x) d s x refl g eg z q eq r n ew f
 
-    module _ (start n : ℕ) (ew : q ≡ Op.Content start n) (k : ℕ) (ek : k ≡ W.content_length o S ob n) (t : Bool) (et : t ≡ ltb g.content k) where
-      content : (r : Walked) → r ≡ Left.admit (Left.visit (d - 1) o S m) o S m ob x (Op.Content start n) (left_of g) → r ≡ Left.visit d o S m ob (ByOffset x) s
+    module _ (c : Content) (ew : q ≡ Ok c) (k : ℕ) (ek : k ≡ W.content_length o S ob c.length) (t : Bool) (et : t ≡ ltb g.content k) where
+      content : (r : Walked) → r ≡ Left.admit (Left.visit (d - 1) o S m) o S m ob x (Ok c) (left_of g) → r ≡ Left.visit d o S m ob (ByOffset x) s
       unfolding W.placed
       content r f =
           visit-found o S m ob (ByOffset x) d s x refl g eg z q eq r
-          (f ∙ sym (ap (λ (w : Opened). Left.admit (Left.visit (d - 1) o S m) o S m ob x w (left_of g)) ew))
+          (f ∙ sym (ap (λ (w : Result Content ℕ). Left.admit (Left.visit (d - 1) o S m) o S m ob x w (left_of g)) ew))
 
       pub offset_unpaid : t ≡ true → (r : Walked) → r ≡ W.refuse 17 x (left_of g) → r ≡ Left.visit d o S m ob (ByOffset x) s
       offset_unpaid h r f =
-          content r (admit_past (Left.visit (d - 1) o S m) o S m ob x start n g.visits g.content k ek (ltb-true g.content k (sym et ∙ h)) r f)
+          content r (admit_past (Left.visit (d - 1) o S m) o S m ob x c.start c.length g.visits g.content k ek (ltb-true g.content k (sym et ∙ h)) r f)
 
       pub offset_paid : t ≡ false → (r : Walked)
-          → r ≡ W.enter (Left.visit (d - 1) o S m) o S m ob x (W.bytes_tested m ob (Op.Content start n)) (W.spending g.visits (g.content - k))
+          → r ≡ W.enter (Left.visit (d - 1) o S m) o S m ob x (W.bytes_tested m ob (Ok c)) (W.spending g.visits (g.content - k))
           → r ≡ Left.visit d o S m ob (ByOffset x) s
       offset_paid h r f =
-          content r (admit_entered (Left.visit (d - 1) o S m) o S m ob x start n g.visits g.content k ek (not_more k g.content t et h) r f)
+          content r (admit_entered (Left.visit (d - 1) o S m) o S m ob x c.start c.length g.visits g.content k ek (not_more k g.content t et h) r f)
 
 -- a text has no parts
 pub text_entered : (child : W.Child) (o : ℕ) (S : Schema) (m : List ℕ) (holder start n : ℕ) (s : Spent)
-    → text_tested m holder start n s ≡ W.enter child o S m O.Text holder (W.bytes_tested m O.Text (Op.Content start n)) s
+    → text_tested m holder start n s ≡ W.enter child o S m O.Text holder (W.bytes_tested m O.Text (Ok (W.content_at start n))) s
 unfolding text_tested W.bytes_tested W.enter W.content
 text_entered child o S m holder start n s = by (W.end_ok m O.Text start n) (W.text_ok m O.Text start n)
   where
     by : (t u : Bool)
-        → pick t (pick u (Going s) (W.refuse 16 holder s)) (W.refuse 10 holder s)
-        ≡ W.enter child o S m O.Text holder (pick t (pick u (Op.Content start n) (Op.Refused 16)) (Op.Refused 10)) s
+        → pick t (pick u (Ok s) (W.refuse 16 holder s)) (W.refuse 10 holder s)
+        ≡ W.enter child o S m O.Text holder (pick t (pick u (Ok (W.content_at start n)) (Err 16)) (Err 10)) s
     by true true = refl
     by true false = refl
     by false u = refl
 
 -- and of a table's bytes nothing is tested
-module _ (o : ℕ) (S : Schema) (m : List ℕ) (x d : ℕ) (s : Spent) (g : Outcome) (eg : walked_of g ≡ charged d x s) (z : g.code ≡ 0) (q : Opened) (start n : ℕ)
-    (ew : q ≡ Op.Content start n) (t : Bool) (et : t ≡ ltb g.content n) where
+module _ (o : ℕ) (S : Schema) (m : List ℕ) (x d : ℕ) (s : Spent) (g : Outcome) (eg : walked_of g ≡ charged d x s) (z : g.code ≡ 0) (q : Result Content ℕ) (y : Content)
+    (ew : q ≡ Ok y) (t : Bool) (et : t ≡ ltb g.content y.length) where
   module _ (eq : q ≡ W.fit_object o S m O.Text (ByOffset x)) where
     pub text_unpaid : t ≡ true → (r : Walked) → r ≡ W.refuse 17 x (left_of g) → r ≡ Left.visit d o S m O.Text (ByOffset x) s
     unfolding W.content_length
-    text_unpaid h r f = offset_unpaid o S m O.Text x d s g eg z q eq start n ew n refl t et h r f
+    text_unpaid h r f = offset_unpaid o S m O.Text x d s g eg z q eq y ew y.length refl t et h r f
 
-    pub text_paid : t ≡ false → (c : ℕ) → c ≡ g.content - n → (r : Walked) → r ≡ text_tested m x start n (W.spending g.visits c)
+    pub text_paid : t ≡ false → (c : ℕ) → c ≡ g.content - y.length → (r : Walked) → r ≡ text_tested m x y.start y.length (W.spending g.visits c)
         → r ≡ Left.visit d o S m O.Text (ByOffset x) s
     unfolding W.content_length
     text_paid h c ec r f =
-        offset_paid o S m O.Text x d s g eg z q eq start n ew n refl t et h r
-        (f ∙ ap (λ (i : ℕ). text_tested m x start n (W.spending g.visits i)) ec ∙ text_entered (Left.visit (d - 1) o S m) o S m x start n _)
+        offset_paid o S m O.Text x d s g eg z q eq y ew y.length refl t et h r
+        (f ∙ ap (λ (i : ℕ). text_tested m x y.start y.length (W.spending g.visits i)) ec ∙ text_entered (Left.visit (d - 1) o S m) o S m x y.start y.length _)
 
   module _ (i : ℕ) (eq : q ≡ W.fit_object o S m (O.Table i) (ByOffset x)) where
     pub table_unpaid : t ≡ true → (r : Walked) → r ≡ W.refuse 17 x (left_of g) → r ≡ Left.visit d o S m (O.Table i) (ByOffset x) s
     unfolding W.content_length
-    table_unpaid h r f = offset_unpaid o S m (O.Table i) x d s g eg z q eq start n ew n refl t et h r f
+    table_unpaid h r f = offset_unpaid o S m (O.Table i) x d s g eg z q eq y ew y.length refl t et h r f
 
-    pub table_paid : t ≡ false → (c : ℕ) → c ≡ g.content - n → (k : ℕ) → k ≡ d - 1 → (r : Walked)
-        → r ≡ W.members (Left.visit k o S m) o S m x start n L.begin 0 (Sc.table_of S i).members (W.spending g.visits c)
+    pub table_paid : t ≡ false → (c : ℕ) → c ≡ g.content - y.length → (k : ℕ) → k ≡ d - 1 → (r : Walked)
+        → r ≡ W.members (Left.visit k o S m) o S m x y.start y.length L.begin 0 (Sc.table_of S i).members (W.spending g.visits c)
         → r ≡ Left.visit d o S m (O.Table i) (ByOffset x) s
     unfolding W.content_length W.bytes_tested W.end_ok W.text_ok W.enter W.content
     table_paid h c ec k ek r f =
-        offset_paid o S m (O.Table i) x d s g eg z q eq start n ew n refl t et h r
-        (f ∙ ap (λ (e : ℕ). W.members (Left.visit e o S m) o S m x start n L.begin 0 (Sc.table_of S i).members (W.spending g.visits c)) ek
-        ∙ ap (λ (e : ℕ). W.members (Left.visit (d - 1) o S m) o S m x start n L.begin 0 (Sc.table_of S i).members (W.spending g.visits e)) ec)
+        offset_paid o S m (O.Table i) x d s g eg z q eq y ew y.length refl t et h r
+        (f ∙ ap (λ (e : ℕ). W.members (Left.visit e o S m) o S m x y.start y.length L.begin 0 (Sc.table_of S i).members (W.spending g.visits c)) ek
+        ∙ ap (λ (e : ℕ). W.members (Left.visit (d - 1) o S m) o S m x y.start y.length L.begin 0 (Sc.table_of S i).members (W.spending g.visits e)) ec)

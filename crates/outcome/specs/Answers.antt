@@ -1,13 +1,14 @@
 -- A walker's answer; what an arrival is charged; the walk's definitions by what the walkers are given. A walker is given, and
 -- answers, what is left of both allowances.
 -- `o` is the width of an offset in bytes.
-use Rattle.std.specs.Prelude.{ℕ, zero, suc, ◌-◌, List, eqb}
+use Rattle.std.specs.Prelude.{ℕ, zero, suc, ◌-◌, List, eqb, Ok, Err}
 use Rattle.coding.specs.Lists.{pick}
 use Rattle.coding.specs.Schema as Sc
 use Rattle.coding.specs.Packed as P
 use Rattle.coding.specs.Layout as L
 use Rattle.coding.specs.Step as T
 use Rattle.coding.specs.Walk as W
+use Rattle.coding.specs.Walk.{Walked}
 use Rattle.coding.specs.declared.Object.{Object}
 use Rattle.coding.specs.declared.Object.TheVariants as O
 use Rattle.coding.specs.declared.Kind.{Kind}
@@ -16,10 +17,7 @@ use Rattle.coding.specs.declared.Cursor.{Cursor}
 use Rattle.coding.specs.declared.Place.{Place}
 use Rattle.coding.specs.declared.Place.TheVariants.{ByOffset}
 use Rattle.coding.specs.declared.Step.{Step}
-use Rattle.coding.specs.declared.Opened.TheVariants as Op
 use Rattle.coding.specs.declared.Spent.{Spent}
-use Rattle.coding.specs.declared.Walked.{Walked}
-use Rattle.coding.specs.declared.Walked.TheVariants.{Going, Refused}
 use Rattle.outcome.specs.declared.Content.{Content}
 use Rattle.outcome.specs.declared.Part.{Part}
 use Rattle.outcome.specs.declared.Outcome.{Outcome}
@@ -32,13 +30,13 @@ left_of w = W.spending w.visits w.content
 -- a walker's answer: 0 to go on, or a refusal's number and 1
 unfoldable pub walked_of : Outcome → Walked
 walked_of w =
-    pick (eqb w.code 0) (Going (left_of w)) (Refused (record { number = w.code - 1; place = w.place; member = w.member }) (left_of w))
+    pick (eqb w.code 0) (Ok (left_of w)) (Err (record { number = w.code - 1; place = w.place; member = w.member }, left_of w))
 
 -- ---- what an arrival is charged
 -- an object with d objects of depth left, itself counted: too deep, or to be opened
 unfoldable pub within : ℕ → W.Child
 within zero ob p s = W.too_deep ob p s
-within (suc d) ob p s = Going s
+within (suc d) ob p s = Ok s
 
 -- what `Left.visit` does at an object at `at` before it reads anything of it, whatever the object
 unfoldable pub charged : ℕ → ℕ → Spent → Walked
@@ -47,7 +45,7 @@ charged d at s = Left.counted (within d) O.Text (ByOffset at) s
 -- the test of a text's bytes once its length is charged: its end byte, then the text; a text has no parts
 unfoldable pub text_tested : List ℕ → ℕ → ℕ → ℕ → Spent → Walked
 text_tested m holder start n s =
-    pick (W.end_ok m O.Text start n) (pick (W.text_ok m O.Text start n) (Going s) (W.refuse 16 holder s)) (W.refuse 10 holder s)
+    pick (W.end_ok m O.Text start n) (pick (W.text_ok m O.Text start n) (Ok s) (W.refuse 16 holder s)) (W.refuse 10 holder s)
 
 -- ---- the walk of the message m by the packed schema b, with d objects of depth left
 -- an arrival
@@ -57,7 +55,7 @@ visit_by o b m d = Left.visit d o (P.parse b) m
 -- an object's content, which fits: its charge, the test of its bytes, and its parts
 abbrev pub content_by : ℕ → List ℕ → List ℕ → ℕ → Object → Content → Spent → Walked
 content_by o b m d ob x s =
-    Left.admit (visit_by o b m d) o (P.parse b) m ob x.holder (Op.Content x.start x.length) s
+    Left.admit (visit_by o b m d) o (P.parse b) m ob x.holder (Ok (W.content_at x.start x.length)) s
 
 -- the members of table t
 abbrev pub members_by : ℕ → List ℕ → List ℕ → ℕ → ℕ → Content → Spent → Walked
@@ -90,4 +88,4 @@ choose_by o b m d part ob p s = W.follow_choice (visit_by o b m d) part.holder p
 
 -- the object that an offset leads to: none where it is 0, else an arrival. No part can be refused by it.
 unfoldable pub referred : W.Child → Object → ℕ → Spent → Walked
-referred child ob x s = pick (eqb x 0) (Going s) (child ob (ByOffset x) s)
+referred child ob x s = pick (eqb x 0) (Ok s) (child ob (ByOffset x) s)

@@ -2,11 +2,9 @@
 // both, as two numbers: of a struct the compiler makes a copy at each call.
 #![tactic(auto)]
 
-ghost use Rattle.std.specs.Prelude.{◌≡◌, ◌-◌, ◌<◌, ◌≤◌, ltb};
+ghost use Rattle.std.specs.Prelude.{◌≡◌, ◌-◌, ◌<◌, ◌≤◌, ltb, Ok};
 ghost use Rattle.coding.specs.Walk as W;
 ghost use Rattle.outcome.specs.Answers as As;
-
-use coding::Walked;
 
 // ---- what walkers are given
 // The objects of depth that a message may have, the root being 1.
@@ -28,11 +26,9 @@ pub struct Part {
 }
 
 // ---- a walker's answer
-// The member of an answer that is about none.
-pub const NO_MEMBER: u32 = wire::NO_MEMBER;
-
 // What a walker answers: 0 to go on, or a refusal's number and 1; its place and its member; the visits and the content that are
 // left.
+// Kept: an enum was tried and was slower, being copied in pieces (docs/DECISIONS.md, "Answers of the walkers").
 #[derive(Clone, Copy)]
 pub struct Outcome {
     pub code: usize,
@@ -44,12 +40,12 @@ pub struct Outcome {
 
 // The walk goes on.
 pub fn going(visits: u32, content: u64) -> Outcome
-    ensures { As.walked_of result ≡ Walked.Going (W.spending visits content) }
+    ensures { As.walked_of result ≡ Ok (W.spending visits content) }
 {
     Outcome {
         code: 0,
         place: 0,
-        member: NO_MEMBER,
+        member: wire::NO_MEMBER,
         visits,
         content,
     }
@@ -59,13 +55,11 @@ pub fn going(visits: u32, content: u64) -> Outcome
 pub fn refuse(n: u8, at: usize, visits: u32, content: u64) -> Outcome
     ensures { As.walked_of result ≡ W.refuse n at (W.spending visits content) }
 {
-    Outcome {
-        code: wire::index(n) + 1,
-        place: at,
-        member: NO_MEMBER,
-        visits,
-        content,
-    }
+    let none = Part {
+        holder: at,
+        number: wire::NO_MEMBER,
+    };
+    refuse_part(n, none, visits, content)
 }
 
 // Refusal n for a part of an object, at the object's place.
@@ -73,7 +67,7 @@ pub fn refuse_part(n: u8, part: Part, visits: u32, content: u64) -> Outcome
     ensures { As.walked_of result ≡ W.refuse_part n part.holder part.number (W.spending visits content) }
 {
     Outcome {
-        code: wire::index(n) + 1,
+        code: usize::from(n) + 1,
         place: part.holder,
         member: part.number,
         visits,

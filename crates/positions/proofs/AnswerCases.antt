@@ -1,5 +1,6 @@
 -- The whole answers: the table that is made, and a table that is handed in.
-use mathlib.Core.Path.{◌≡◌, refl, sym, ap, ap₂, ◌∙◌}
+use mathlib.Core.Path.{◌≡◌, refl, sym, ap, ap₂, ◌∙◌, subst}
+use Rattle.std.specs.Prelude.{Option, Some, None}
 use mathlib.Core.Bool.{Bool, true, false, not}
 use mathlib.Core.List.{List, ◌++◌}
 use Prim.Native.Nat.{ℕ, ◌*◌, ◌^◌, ◌<◌, ◌≤◌}
@@ -18,9 +19,8 @@ use Rattle.laws.specs.LentTables.{right-schema, wrong-schema, no-schema}
 use Rattle.laws.specs.Lists.{never}
 use Rattle.laws.specs.PositionRows.{member_total, table_bytes-length}
 use Rattle.laws.specs.SameLists.{stands, same_is, same-longer, same-stands}
-use Rattle.schema.specs.Directory.{Accepted, AcceptedUnder, Judged}
-use Rattle.wire.specs.Sizes.{Width}
-use Rattle.positions.specs.Rows.{TableJudged}
+use Rattle.schema.specs.declared.held.Schema.{Schema}
+use Rattle.schema.specs.Parsed.{bytes_of, Held, held_is, held_none}
 
 -- ---- the length of the table, which was counted
 module _ (o : ℕ) (b : List ℕ) (n : ℕ) (en : n ≡ 12 * member_total (P.parse b).tables) where
@@ -71,47 +71,45 @@ module _ (o : ℕ) (b : List ℕ) (n : ℕ) (en : n ≡ 12 * member_total (P.par
     rows_same e r er = er ∙ sym (same-stands t (Po.positions_of o b) (e ∙ sym long))
 
 -- ---- the schema
-pub schema_accepted : (o : ℕ) (b dir : List ℕ) (t : Bool) → Judged o b dir t → t ≡ true → AcceptedUnder o b dir
-schema_accepted o b dir t j e = j.right e
+module _ (o : ℕ) (b out : List ℕ) (h : Option Schema) (e : Held o b h) where
+  pub schema_made : (s : Schema) → h ≡ Some s → (r : WriteAnswer) → r ≡ Po.positions_answer s.width (bytes_of s) out → r ≡ Po.positions_answer o b out
+  schema_made s is = held_is o b h e s is (λ (w : ℕ) (x : List ℕ). Po.positions_answer w x out)
 
-module _ (o : ℕ) (b dir out : List ℕ) (t : Bool) (j : Judged o b dir t) (h : t ≡ false) where
-  pub schema_answer : (r : WriteAnswer) → r.number ≡ 1 → r.length ≡ 0 → r ≡ Po.positions_answer o b out
-  unfolding Po.positions_answer Po.positions_made M.write_room
-  schema_answer r ea el = rw (← j.is, h) (ap₂ (λ (x y : ℕ). record { number = x; length = y }) ea el)
+  pub schema_made-out : (s : Schema) → h ≡ Some s → (r : List ℕ) → r ≡ Po.positions_out s.width (bytes_of s) out → r ≡ Po.positions_out o b out
+  schema_made-out s is = held_is o b h e s is (λ (w : ℕ) (x : List ℕ). Po.positions_out w x out)
 
-  pub schema_out : out ≡ Po.positions_out o b out
-  unfolding Po.positions_out Po.positions_made M.write_over
-  schema_out = rw (← j.is, h) refl
+  module _ (is : h ≡ None) where
+    pub schema_answer : (r : WriteAnswer) → r.number ≡ 1 → r.length ≡ 0 → r ≡ Po.positions_answer o b out
+    unfolding Po.positions_answer Po.positions_made M.write_room
+    schema_answer r ea el = rw (held_none o b h e is) (ap₂ (λ (x y : ℕ). record { number = x; length = y }) ea el)
+
+    pub schema_out : out ≡ Po.positions_out o b out
+    unfolding Po.positions_out Po.positions_made M.write_over
+    schema_out = rw (held_none o b h e is) refl
 
 -- ---- the schema with a table
-off_judged : (o : ℕ) (b dir t : List ℕ) → Po.table_right o b t ≡ false → TableJudged o b t dir false
-off_judged o b dir t e =
-    record { is = sym (ap (L.lawful o) (wrong-schema o b t e) ∙ no-schema o); right = λ x. absurd (never x) }
+module _ (o : ℕ) (b t : List ℕ) (h : Option Schema) (e : Held o b h) where
+  off : Po.table_right o b t ≡ false → L.lawful o (Po.with_table o b t) ≡ false
+  off q = ap (L.lawful o) (wrong-schema o b t q) ∙ no-schema o
 
-module _ (o : ℕ) (b dir t : List ℕ) (s : Bool) (j : Judged o b dir s) where
-  pub schema_off : not s ≡ true → TableJudged o b t dir false
+  pub schema_off : h ≡ None → L.lawful o (Po.with_table o b t) ≡ false
   unfolding Po.table_right
-  schema_off h = off_judged o b dir t (rw (← j.is, not-true s h) refl)
+  schema_off is = off (rw (held_none o b h e is) refl)
 
-  module _ (h : not s ≡ false) where
-    accepted : AcceptedUnder o b dir
-    accepted = j.right (not-false s h)
+  module _ (s : Schema) (is : h ≡ Some s) where
+    holds : Held o b (Some s)
+    holds = subst (Held o b) is e
 
-    pub schema-right : Accepted b dir
-    schema-right = accepted.accepted
-
-    pub schema-width : Width o
-    schema-width = accepted.width
-
-    right_by : (r : Bool) → r ≡ same t (Po.positions_of o b) → Po.table_right o b t ≡ r
+    right_by : (r : Bool) → r ≡ same t (Po.positions_of s.width (bytes_of s)) → Po.table_right o b t ≡ r
     unfolding Po.table_right
-    right_by r e = rw accepted.lawful (sym e)
+    right_by r q = rw holds.2 (sym (q ∙ ap₂ (λ (w : ℕ) (x : List ℕ). same t (Po.positions_of w x)) holds.1 holds.0))
 
-    pub table_judged : (r : Bool) → r ≡ same t (Po.positions_of o b) → TableJudged o b t dir r
-    table_judged true e =
-        let whole : Po.with_table o b t ≡ b = right-schema o b t (right_by true e) in
-        record {
-          is = sym (ap (L.lawful o) whole ∙ accepted.lawful);
-          right = λ x. record { accepted = accepted; table = same_is t (Po.positions_of o b) (sym e); schema = whole };
-        }
-    table_judged false e = off_judged o b dir t (right_by false e)
+    pub table_off : (r : Bool) → r ≡ same t (Po.positions_of s.width (bytes_of s)) → r ≡ false → L.lawful o (Po.with_table o b t) ≡ false
+    table_off r q n = off (right_by r q ∙ n)
+
+    module _ (r : Bool) (q : r ≡ same t (Po.positions_of s.width (bytes_of s))) (n : r ≡ true) where
+      pub table_is : t ≡ Po.positions_of s.width (bytes_of s)
+      table_is = same_is t (Po.positions_of s.width (bytes_of s)) (sym q ∙ n)
+
+      pub table_held : (bytes_of s ≡ b) × (s.width ≡ o) × (t ≡ t) × (Po.with_table o b t ≡ b) × (L.lawful o b ≡ true)
+      table_held = (holds.0, holds.1, refl, right-schema o b t (right_by r q ∙ n), holds.2)

@@ -1,17 +1,15 @@
 -- What the contracts say of rows, and of the tables that are made of them.
-use Rattle.std.specs.Prelude.{ℕ, ◌+◌, ◌≤◌, ◌≡◌, Bool, true, drop}
+use Rattle.std.specs.Prelude.{ℕ, ◌+◌, ◌≤◌, ◌≡◌, drop}
 use mathlib.Core.List.{List, flat_map}
 use Rattle.coding.specs.Schema.{Schema, table_of}
 use Rattle.coding.specs.Packed.{parse}
-use Rattle.coding.specs.Lawful.{lawful}
 use Rattle.coding.specs.Layout.{placement_of, after_member}
-use Rattle.coding.specs.Positions.{row_of, row_bytes, member_rows, table_rows, positions_of, with_table}
+use Rattle.coding.specs.Positions.{row_of, row_bytes, member_rows, table_rows, positions_of}
 use Rattle.coding.specs.declared.Member.{Member}
 use Rattle.coding.specs.declared.Cursor.{Cursor}
 use Rattle.coding.specs.declared.Row.{Row}
 use Rattle.laws.specs.RowBounds.{RowSmall}
 use Rattle.message_layout.specs.Bounds.{Laid}
-use Rattle.schema.specs.Directory.{AcceptedUnder}
 
 -- a cursor behind 256 members at most: each takes no more than 4,097 bytes
 abbrev pub Low : Cursor → Type 0
@@ -35,14 +33,3 @@ rest_bytes o b t j c = flat_map row_bytes (member_rows o (parse b) c (drop j (ta
 -- the bytes of the rows of all tables from t on
 abbrev pub tables_bytes : ℕ → List ℕ → ℕ → List ℕ
 tables_bytes o b t = flat_map row_bytes (flat_map (table_rows o (parse b)) (drop t (parse b).tables))
-
--- the schema is lawful under the coding whose offsets have o bytes, and t is its table of positions: a reader goes by it
-pub record AcceptedWith (o : ℕ) (b t dir : List ℕ) : Type 0 where
-  pub accepted : AcceptedUnder o b dir
-  pub table : t ≡ positions_of o b
-  pub schema : with_table o b t ≡ b
-
--- an answer to whether refusal 1 does not arise
-pub record TableJudged (o : ℕ) (b t dir : List ℕ) (r : Bool) : Type 0 where
-  pub is : r ≡ lawful o (with_table o b t)
-  pub right : r ≡ true → AcceptedWith o b t dir

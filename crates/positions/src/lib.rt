@@ -13,12 +13,17 @@ ghost use Rattle.laws.specs.RowBounds.{RowSmall};
 ghost use Rattle.laws.specs.SameLists.{stands};
 ghost use Rattle.laws.specs.Sound.{MemberSound};
 ghost use Rattle.message_layout.specs.Bounds.{Laid};
-ghost use Rattle.schema.specs.Directory.{Accepted, AcceptedUnder};
-ghost use Rattle.wire.specs.Sizes.{Width};
 ghost use Rattle.positions.specs.Placements as Pl;
-ghost use Rattle.positions.specs.Rows.{Low, Next, table_bytes, TableJudged};
+ghost use Rattle.positions.specs.Lent.{HeldWith};
+ghost use Rattle.positions.specs.Rows.{Low, Next, table_bytes};
+ghost use Rattle.schema.specs.Parsed.{parsed, bytes_of};
 
 use coding::{Cursor, Placement, Row, Slot, WriteAnswer};
+use schema::Schema;
+
+pub mod indexed;
+
+pub use indexed::Indexed;
 
 // The bytes of a row: three U32s.
 const ROW: usize = 12;
@@ -43,11 +48,11 @@ fn flagged_at(b: &[u8], at: usize) -> bool
 }
 
 // The bytes of the value.
-fn width_at(b: &[u8], dir: &[u16], at: usize, o: usize) -> usize
-    requires { (Accepted b.now dir.now) × (Width o) × (at + 1 < length b.now) × MemberSound (P.parse b.now) (P.member_at b.now at) }
-    ensures { (result ≡ L.width o (P.parse b.now) (P.element_at b.now at)) × (result ≤ 4096) }
+fn width_at(schema: &Schema, at: usize) -> usize
+    requires { (at + 1 < length (bytes_of schema.now)) × MemberSound (parsed schema.now) (P.member_at (bytes_of schema.now) at) }
+    ensures { (result ≡ L.width schema.now.width (parsed schema.now) (P.element_at (bytes_of schema.now) at)) × (result ≤ 4096) }
 {
-    let k = schema::kind_at(b, at);
+    let k = schema::kind_at(schema.packed.bytes, at);
     if k < schema::KIND_ENUM {
         return wire::index(schema::width_of(k));
     }
@@ -55,12 +60,12 @@ fn width_at(b: &[u8], dir: &[u16], at: usize, o: usize) -> usize
         return 1;
     }
     if k == schema::KIND_STRUCT {
-        return schema::stored_size(b, dir, wire::index(schema::argument_at(b, at)));
+        return schema.stored_size(wire::index(schema::argument_at(schema.packed.bytes, at)));
     }
     if schema::is_union_kind(k) {
-        return wire::union_size(o);
+        return wire::union_size(schema.width);
     }
-    o
+    schema.width
 }
 
 // ---- a row
@@ -91,14 +96,14 @@ struct RowStep {
 }
 
 // The row of the member whose record stands at `at`, where the cursor stands.
-fn record_row(b: &[u8], dir: &[u16], at: usize, c: Cursor, o: usize) -> RowStep
-    requires { (Accepted b.now dir.now) × (Width o) × (at + 1 < length b.now) × (MemberSound (P.parse b.now) (P.member_at b.now at)) × Low c }
-    ensures { Next o (P.parse b.now) (P.member_at b.now at) c result.row result.next }
+fn record_row(schema: &Schema, at: usize, c: Cursor) -> RowStep
+    requires { (at + 1 < length (bytes_of schema.now)) × (MemberSound (parsed schema.now) (P.member_at (bytes_of schema.now) at)) × Low c }
+    ensures { Next schema.now.width (parsed schema.now) (P.member_at (bytes_of schema.now) at) c result.row result.next }
 {
-    let flagged = flagged_at(b, at);
+    let flagged = flagged_at(schema.packed.bytes, at);
     let behind = message_layout::after_flag(flagged, c);
     let flag = flag_bit(flagged, c);
-    if schema::kind_at(b, at) == schema::KIND_BOOL {
+    if schema::kind_at(schema.packed.bytes, at) == schema::KIND_BOOL {
         let value = next_bit(behind);
         let next = message_layout::after_bit(behind);
         let row = Row {
@@ -108,7 +113,7 @@ fn record_row(b: &[u8], dir: &[u16], at: usize, c: Cursor, o: usize) -> RowStep
         };
         return RowStep { row, next };
     }
-    let w = width_at(b, dir, at, o);
+    let w = width_at(schema, at);
     let next = message_layout::after_bytes(behind, w);
     let row = Row {
         value: 8 * behind.end,
@@ -119,31 +124,30 @@ fn record_row(b: &[u8], dir: &[u16], at: usize, c: Cursor, o: usize) -> RowStep
 }
 
 // The row of member j of table t, where the cursor stands.
-fn next_row(b: &[u8], dir: &[u16], t: usize, j: usize, c: Cursor, o: usize) -> RowStep
-    requires { (Accepted b.now dir.now) × (Width o) × (t < P.table_count b.now) × (j < length (Sc.table_of (P.parse b.now) t).members) × (j < 256) × Laid (4097 * j) c }
-    ensures { Next o (P.parse b.now) (Sc.member_of (P.parse b.now) t j) c result.row result.next }
+fn next_row(schema: &Schema, t: usize, j: usize, c: Cursor) -> RowStep
+    requires { (t < P.table_count (bytes_of schema.now)) × (j < length (Sc.table_of (parsed schema.now) t).members) × (j < 256) × Laid (4097 * j) c }
+    ensures { Next schema.now.width (parsed schema.now) (Sc.member_of (parsed schema.now) t j) c result.row result.next }
 {
-    record_row(b, dir, schema::record_of(b, dir, t, j), c, o)
+    record_row(schema, schema.record_of(t, j), c)
 }
 
 // ---- where the rows of a table stand
 // Where the first row of table t stands: a table takes five bytes of the schema, and two for each member.
-pub fn first_row(b: &[u8], dir: &[u16], t: usize) -> usize
-    requires { (Accepted b.now dir.now) × (t < P.table_count b.now) }
-    ensures { (result ≡ 12 * member_total (take t (P.parse b.now).tables)) × (result < 2 ^ 20) }
+pub fn first_row(schema: &Schema, t: usize) -> usize
+    requires { t < P.table_count (bytes_of schema.now) }
+    ensures { (result ≡ 12 * member_total (take t (parsed schema.now).tables)) × (result < 2 ^ 20) }
 {
-    let start = schema::table_place(b, dir, 0);
-    let records = schema::table_place(b, dir, t) - start - 5 * t;
+    let start = schema.packed.table_place(0);
+    let records = schema.packed.table_place(t) - start - 5 * t;
     ROW * (records / 2)
 }
 
 // The bytes of the whole table of positions.
-fn size(b: &[u8], dir: &[u16]) -> usize
-    requires { Accepted b.now dir.now }
-    ensures { (result ≡ 12 * member_total (P.parse b.now).tables) × (result < 2 ^ 21) }
+fn size(schema: &Schema) -> usize
+    ensures { (result ≡ 12 * member_total (parsed schema.now).tables) × (result < 2 ^ 21) }
 {
-    let last = schema::count(b, schema::TABLES) - 1;
-    first_row(b, dir, last) + ROW * schema::member_count(b, dir, last)
+    let last = schema::count(schema.packed.bytes, schema::TABLES) - 1;
+    first_row(schema, last) + ROW * schema.packed.member_count(last)
 }
 
 // ---- making the table
@@ -158,35 +162,31 @@ fn put_row(out: &mut [u8], at: usize, x: Row)
 }
 
 // The rows of table t, from byte `at` on; and where they end.
-fn put_table(b: &[u8], dir: &[u16], out: &mut [u8], t: usize, at: usize, o: usize) -> usize
-    requires { (Accepted b.now dir.now) × (Width o) × (t < P.table_count b.now) × (at < 2 ^ 60) × (at + 12 * length (Sc.table_of (P.parse b.now) t).members ≤ length out.old) }
-    ensures { (out.new ≡ sets out.old at (table_bytes o b.now t)) × (result ≡ at + 12 * length (Sc.table_of (P.parse b.now) t).members) }
+fn put_table(schema: &Schema, out: &mut [u8], t: usize, at: usize) -> usize
+    requires { (t < P.table_count (bytes_of schema.now)) × (at < 2 ^ 60) × (at + 12 * length (Sc.table_of (parsed schema.now) t).members ≤ length out.old) }
+    ensures { (out.new ≡ sets out.old at (table_bytes schema.now.width (bytes_of schema.now) t)) × (result ≡ at + 12 * length (Sc.table_of (parsed schema.now) t).members) }
 {
-    let n = schema::member_count(b, dir, t);
+    let n = schema.packed.member_count(t);
     let mut c = message_layout::begin();
     let mut pos = at;
-    let mut j: usize = 0;
-    while j < n {
-        let s = next_row(b, dir, t, j, c, o);
+    for j in 0..n {
+        let s = next_row(schema, t, j, c);
         put_row(out, pos, s.row);
         c = s.next;
         pos += ROW;
-        j += 1;
     }
     pos
 }
 
 // The rows of all tables.
-fn put_tables(b: &[u8], dir: &[u16], out: &mut [u8], o: usize)
-    requires { (Accepted b.now dir.now) × (Width o) × (length (Po.positions_of o b.now) ≤ length out.old) × (length (Po.positions_of o b.now) < 2 ^ 60) }
-    ensures { out.new ≡ sets out.old 0 (Po.positions_of o b.now) }
+fn put_tables(schema: &Schema, out: &mut [u8])
+    requires { (length (Po.positions_of schema.now.width (bytes_of schema.now)) ≤ length out.old) × (length (Po.positions_of schema.now.width (bytes_of schema.now)) < 2 ^ 60) }
+    ensures { out.new ≡ sets out.old 0 (Po.positions_of schema.now.width (bytes_of schema.now)) }
 {
-    let n = schema::count(b, schema::TABLES);
+    let n = schema::count(schema.packed.bytes, schema::TABLES);
     let mut at: usize = 0;
-    let mut t: usize = 0;
-    while t < n {
-        at = put_table(b, dir, out, t, at, o);
-        t += 1;
+    for t in 0..n {
+        at = put_table(schema, out, t, at);
     }
 }
 
@@ -198,16 +198,15 @@ fn refused(number: u8) -> WriteAnswer
 }
 
 // The table of a schema that was found lawful: 14, or the table's length, and the table in the output.
-fn positions_judged(b: &[u8], dir: &[u16], out: &mut [u8], o: usize) -> WriteAnswer
-    requires { AcceptedUnder o b.now dir.now }
-    ensures value { result ≡ Po.positions_answer o b.now out.old }
-    ensures out_after { out.new ≡ Po.positions_out o b.now out.old }
+fn positions_judged(schema: &Schema, out: &mut [u8]) -> WriteAnswer
+    ensures value { result ≡ Po.positions_answer schema.now.width (bytes_of schema.now) out.old }
+    ensures out_after { out.new ≡ Po.positions_out schema.now.width (bytes_of schema.now) out.old }
 {
-    let n = size(b, dir);
+    let n = size(schema);
     if out.len() < n {
         return refused(14);
     }
-    put_tables(b, dir, out, o);
+    put_tables(schema, out);
     WriteAnswer {
         number: 0,
         length: n,
@@ -221,11 +220,11 @@ pub fn positions(b: &[u8], out: &mut [u8], o: usize) -> WriteAnswer
     ensures value { result ≡ Po.positions_answer o b.now out.old }
     ensures out_after { out.new ≡ Po.positions_out o b.now out.old }
 {
-    let mut dir: [u16; 384] = [0; 384];
-    if schema_lawful::judge_schema(b, &mut dir, o) {
-        return positions_judged(b, &dir, out, o);
+    let mut directory: [u16; schema::DIRECTORY] = [0; schema::DIRECTORY];
+    match schema_lawful::judge_schema(b, &mut directory, o) {
+        Some(schema) => positions_judged(&schema, out),
+        None => refused(1),
     }
-    refused(1)
 }
 
 // ---- a table that is handed in
@@ -244,65 +243,70 @@ fn row_is(rows: &[u8], at: usize, x: Row) -> bool
 }
 
 // Whether the rows of table t stand from byte `at` on.
-fn table_is(b: &[u8], dir: &[u16], rows: &[u8], t: usize, at: usize, o: usize) -> bool
-    requires { (Accepted b.now dir.now) × (Width o) × (t < P.table_count b.now) × (at < 2 ^ 60) × (at + 12 * length (Sc.table_of (P.parse b.now) t).members ≤ length rows.now) }
-    ensures { result ≡ stands rows.now at (table_bytes o b.now t) }
+fn table_is(schema: &Schema, rows: &[u8], t: usize, at: usize) -> bool
+    requires { (t < P.table_count (bytes_of schema.now)) × (at < 2 ^ 60) × (at + 12 * length (Sc.table_of (parsed schema.now) t).members ≤ length rows.now) }
+    ensures { result ≡ stands rows.now at (table_bytes schema.now.width (bytes_of schema.now) t) }
 {
-    let n = schema::member_count(b, dir, t);
+    let n = schema.packed.member_count(t);
     let mut c = message_layout::begin();
     let mut pos = at;
-    let mut j: usize = 0;
-    while j < n {
-        let s = next_row(b, dir, t, j, c, o);
+    for j in 0..n {
+        let s = next_row(schema, t, j, c);
         if !row_is(rows, pos, s.row) {
             return false;
         }
         c = s.next;
         pos += ROW;
-        j += 1;
     }
     true
 }
 
 // Whether the rows of all tables stand from the first byte on.
-fn tables_are(b: &[u8], dir: &[u16], rows: &[u8], o: usize) -> bool
-    requires { (Accepted b.now dir.now) × (Width o) × (length rows.now ≡ length (Po.positions_of o b.now)) × (length (Po.positions_of o b.now) < 2 ^ 60) }
-    ensures { result ≡ stands rows.now 0 (Po.positions_of o b.now) }
+fn tables_are(schema: &Schema, rows: &[u8]) -> bool
+    requires { (length rows.now ≡ length (Po.positions_of schema.now.width (bytes_of schema.now))) × (length (Po.positions_of schema.now.width (bytes_of schema.now)) < 2 ^ 60) }
+    ensures { result ≡ stands rows.now 0 (Po.positions_of schema.now.width (bytes_of schema.now)) }
 {
-    let n = schema::count(b, schema::TABLES);
+    let n = schema::count(schema.packed.bytes, schema::TABLES);
     let mut at: usize = 0;
-    let mut t: usize = 0;
-    while t < n {
-        if !table_is(b, dir, rows, t, at, o) {
+    for t in 0..n {
+        if !table_is(schema, rows, t, at) {
             return false;
         }
-        at += ROW * schema::member_count(b, dir, t);
-        t += 1;
+        at += ROW * schema.packed.member_count(t);
     }
     true
 }
 
 // Whether the bytes are the table of positions of a schema: first their length, then row by row.
-pub fn matches(b: &[u8], dir: &[u16], rows: &[u8], o: usize) -> bool
-    requires { (Accepted b.now dir.now) × Width o }
-    ensures { result ≡ same rows.now (Po.positions_of o b.now) }
+pub fn matches(schema: &Schema, rows: &[u8]) -> bool
+    ensures { result ≡ same rows.now (Po.positions_of schema.now.width (bytes_of schema.now)) }
 {
-    if rows.len() != size(b, dir) {
+    if rows.len() != size(schema) {
         return false;
     }
-    tables_are(b, dir, rows, o)
+    tables_are(schema, rows)
 }
 
-// Whether the bytes b are a lawful schema under the coding of width o, and rows are its table of positions. Where both are so, the
-// directory says where everything stands.
-pub fn judge_schema(b: &[u8], rows: &[u8], dir: &mut [u16], o: usize) -> bool
-    requires { length dir.old ≡ 384 }
-    ensures { TableJudged o b.now rows.now dir.new result }
+// The schema with its table, if the bytes b are a lawful one under the coding of width o, and rows are its table of positions.
+// `directory` is the room for where everything stands.
+pub fn judge_schema<'a>(
+    b: &'a [u8],
+    rows: &'a [u8],
+    directory: &'a mut [u16],
+    o: usize,
+) -> Option<Indexed<'a>>
+    requires { length directory.old ≡ 384 }
+    ensures { HeldWith o b.now rows.now result }
 {
-    if !schema_lawful::judge_schema(b, dir, o) {
-        return false;
+    match schema_lawful::judge_schema(b, directory, o) {
+        None => None,
+        Some(schema) => {
+            if !matches(&schema, rows) {
+                return None;
+            }
+            Some(Indexed { schema, rows })
+        }
     }
-    matches(b, dir, rows, o)
 }
 
 // ---- a member by its row
@@ -329,9 +333,9 @@ pub fn placement_in(rows: &[u8], at: usize) -> Placement
 }
 
 // Where member j of table t stands, by the table of positions of its schema: the members before it are not looked at.
-pub fn placement_at(b: &[u8], dir: &[u16], rows: &[u8], t: usize, j: usize, o: usize) -> Placement
-    requires { (Accepted b.now dir.now) × (Width o) × (rows.now ≡ Po.positions_of o b.now) × (t < P.table_count b.now) × (j < length (Sc.table_of (P.parse b.now) t).members) × (j < 256) }
-    ensures { Pl.ByTable o (P.parse b.now) (Sc.member_of (P.parse b.now) t j) (Pl.cursor_at o b.now t j) result }
+pub fn placement_at(schema: &Schema, rows: &[u8], t: usize, j: usize) -> Placement
+    requires { (rows.now ≡ Po.positions_of schema.now.width (bytes_of schema.now)) × (t < P.table_count (bytes_of schema.now)) × (j < length (Sc.table_of (parsed schema.now) t).members) × (j < 256) }
+    ensures { Pl.ByTable schema.now.width (parsed schema.now) (Sc.member_of (parsed schema.now) t j) (Pl.cursor_at schema.now.width (bytes_of schema.now) t j) result }
 {
-    placement_in(rows, first_row(b, dir, t) + ROW * j)
+    placement_in(rows, first_row(schema, t) + ROW * j)
 }

@@ -1,5 +1,5 @@
 -- The demands, of what the called functions answer.
-use mathlib.Core.Path.{◌≡◌, refl, sym, ap, ◌∙◌}
+use mathlib.Core.Path.{◌≡◌, refl, sym, ap, ◌∙◌, subst}
 use mathlib.Core.Bool.{true}
 use mathlib.Core.List.{List}
 use mathlib.Core.Logic.{◌↔◌, ◌⊎◌}
@@ -7,6 +7,7 @@ use mathlib.Core.Option.{some}
 use Prim.Native.Nat.{ℕ, ◌≤◌}
 use lib.ListN.{length, take}
 use Rattle.coding.specs.Packed.{parse}
+use Rattle.coding.specs.Walk as W
 use Rattle.coding.specs.Walk.{at_zero, spent_of, verdict}
 use Rattle.coding.specs.Read.{message_read}
 use Rattle.coding.specs.Sheet.{sheet_tree}
@@ -18,7 +19,8 @@ use Rattle.coding.specs.declared.Answer.{Answer}
 use Rattle.coding.specs.declared.Answer.TheVariants as A
 use Rattle.coding.specs.declared.Budget.{Budget}
 use Rattle.coding.specs.declared.Refusal.{Refusal}
-use Rattle.coding.specs.declared.Span.{Span}
+use Rattle.std.specs.Prelude.{Option, Some, None, IsSome}
+use Rattle.coding.specs.declared.Content.{Content}
 use Rattle.coding.specs.declared.Spent.{Spent}
 use Rattle.coding.specs.declared.Verdict.{Verdict}
 use Rattle.coding.specs.declared.ReadAnswer.{ReadAnswer}
@@ -33,6 +35,7 @@ use Rattle.demands.specs.FieldEntries.{shown}
 use Rattle.demands.specs.Fields.{sheet_entry_lem, field-refusal}
 use Rattle.demands.specs.Texts.{IsText, part_answers, text-part}
 use Rattle.demands.specs.SheetText.{sheet-text}
+use Rattle.laws.specs.Lists.{never}
 use Rattle.promises.specs.Words.{TableOf, Accepts, costs, arrivals, contents, Fits, NoRoom, HandsOut, CutDown, entry_at, text_at}
 use Rattle.promises.proofs.Tables.{verdict_by, answer_by_lem, out_by_lem}
 use Rattle.promises.proofs.Reading.{handed, hands_out, read-or_room, fits_read, read_fits, no_room}
@@ -156,19 +159,18 @@ module _ (o : ℕ) (b m : List ℕ) (schema_bytes : AreBytes b) (message_bytes :
   pub shows-refusal : (q : Answer) → q ≡ Field.field o b m path → (r : Refusal) → q ≡ A.Refused r → r.number ≡ 15
   shows-refusal q eq r e = field-refusal o b schema_bytes m budget accepted path short r (sym eq ∙ e)
 
-  pub shows-text : (p : Span) → p ≡ Field.field_span o b m path → Field.text_of m p ≡ text_at b (message_sheet o b m) path
+  pub shows-text : (p : Option Content) → p ≡ Field.field_span o b m path → Field.text_of m p ≡ text_at b (message_sheet o b m) path
   unfolding Field.field_text
   shows-text p ep = ap (Field.text_of m) ep ∙ sheet-text o b m schema_bytes message_bytes budget accepted path short
 
 -- ---- a text or bytes
-module _ (o : ℕ) (b m path : List ℕ) (p : Span) (ep : p ≡ Field.field_span o b m path) where
-  pub there-exactly : (p.there ≡ true) ↔ ((k at n : ℕ) × (Field.field o b m path ≡ A.Object k at n) × IsText k)
-  there-exactly = (
-    λ h.
-        let y = part_answers o b m path (ap (λ (x : Span). x.there) (sym ep) ∙ h) in
-        (y.0, y.1, (Field.field_span o b m path).length, y.2, y.3),
-    λ y. ap (λ (x : Span). x.there) ep ∙ (text-part o b m path y.0 y.1 y.2 y.3 y.4).0,
-  )
+module _ (o : ℕ) (b m path : List ℕ) (p : Option Content) (ep : p ≡ Field.field_span o b m path) where
+  pub there_long : (k at n : ℕ) → Field.field o b m path ≡ A.Object k at n → IsText k → (start : ℕ) × (p ≡ Some (W.content_at start n))
+  there_long k at n e t = let y = text-part o b m path k at n e t in (y.0, ep ∙ y.1)
 
-  pub there_long : (k at n : ℕ) → Field.field o b m path ≡ A.Object k at n → IsText k → p.length ≡ n
-  there_long k at n e t = ap (λ (x : Span). x.length) ep ∙ (text-part o b m path k at n e t).1
+  pub there-exactly : IsSome p ↔ ((k at n : ℕ) × (Field.field o b m path ≡ A.Object k at n) × IsText k)
+  there-exactly = (λ h. by p refl h, λ y. let z = there_long y.0 y.1 y.2 y.3 y.4 in subst IsSome (sym z.1) refl)
+    where
+      by : (q : Option Content) → p ≡ q → IsSome q → (k at n : ℕ) × (Field.field o b m path ≡ A.Object k at n) × IsText k
+      by None e h = never h
+      by (Some c) e h = let y = part_answers o b m path c (sym ep ∙ e) in (y.0, y.1, c.length, y.2, y.3)

@@ -17,7 +17,8 @@ use Rattle.coding.specs.declared.Answer.{Answer}
 use Rattle.coding.specs.declared.Answer.TheVariants as A
 use Rattle.coding.specs.declared.Budget.{Budget}
 use Rattle.coding.specs.declared.ReadAnswer.{ReadAnswer}
-use Rattle.coding.specs.declared.Span.{Span}
+use Rattle.std.specs.Prelude.{Option, None}
+use Rattle.coding.specs.declared.Content.{Content}
 use Rattle.coding.specs.declared.Verdict.{Verdict}
 use Rattle.coding.specs.declared.WriteAnswer.{WriteAnswer}
 use Rattle.field_element.specs.declared.ListStep.{ListStep}
@@ -74,7 +75,7 @@ module _ (o : ℕ) (b t : List ℕ) where
         pub old-field : (r : Answer) → r ≡ F.field o (with_table o b t) m path → r ≡ F.field o b m path
         old-field r h = h ∙ same.field m path
 
-        pub old_span : (r : Span) → r ≡ F.field_span o (with_table o b t) m path → r ≡ F.field_span o b m path
+        pub old_span : (r : Option Content) → r ≡ F.field_span o (with_table o b t) m path → r ≡ F.field_span o b m path
         old_span r h = h ∙ same.field_span m path
 
         pub old_step : (j : ℕ) (s : ListStep) → s.answer ≡ F.reader_gives o (with_table o b t) m path j
@@ -123,7 +124,7 @@ module _ (o : ℕ) (b t : List ℕ) where
         pub other-field : (r : Answer) → r ≡ F.field o (with_table o b t) m path → r ≡ A.Refused (W.refusal 1 0)
         other-field r h = h ∙ refused.field m path
 
-        pub other_span : (r : Span) → r ≡ F.field_span o (with_table o b t) m path → r ≡ F.no_span
+        pub other_span : (r : Option Content) → r ≡ F.field_span o (with_table o b t) m path → r ≡ None
         other_span r h = h ∙ refused.field_span m path
 
         pub other_step : (j : ℕ) (s : ListStep) → s.answer ≡ F.reader_gives o (with_table o b t) m path j

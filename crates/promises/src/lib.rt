@@ -4,7 +4,7 @@
 // table, by `lent`; demands that join several functions suppose the table that is built from the schema, `TableOf`.
 #![tactic(auto)]
 
-ghost use Rattle.std.specs.Prelude.{◌≡◌, [], ◌∷◌, ◌++◌, ◌↔◌, ◌⊎◌, true, false, ℕ, suc, ◌+◌, ◌/◌, ◌<◌, ◌≤◌, length, take, drop};
+ghost use Rattle.std.specs.Prelude.{◌≡◌, [], ◌∷◌, ◌++◌, ◌↔◌, ◌⊎◌, true, false, ℕ, suc, ◌+◌, ◌/◌, ◌<◌, ◌≤◌, length, take, drop, IsSome, IfSome};
 ghost use Rattle.std.proofs.Math.Option.{some};
 ghost use Rattle.coding.specs.Append as Ap;
 ghost use Rattle.coding.specs.Field as F;
@@ -31,7 +31,7 @@ ghost use Rattle.promises.specs.Words.{Accepts, costs, arrivals, contents, value
 ghost use Rattle.promises.specs.Words.{lent, TableOf, members_of, row_place, old_placement};
 ghost use Rattle.promises.specs.Words.{entry_at, text_at, LeadsToList, HoldsAnswers, LawfulSheet, Writable, layout_of, was_writable, UnionInPlace, NoUnionInPlace};
 
-use coding::{Answer, Budget, Object, ReadAnswer, Refusal, Span, Verdict, WriteAnswer};
+use coding::{Answer, Budget, Content, Object, ReadAnswer, Refusal, Verdict, WriteAnswer};
 use field_element::ListStep;
 use field_reader::ListReader;
 
@@ -366,7 +366,7 @@ pub fn field_and_sheet(
 // Where a text stands, and the whole sheet of a message.
 #[derive(Clone, Copy)]
 pub struct TextAndSheet {
-    pub text: Span,
+    pub text: Option<Content>,
     pub sheet: ReadAnswer,
 }
 
@@ -385,11 +385,11 @@ pub fn text_and_sheet(
     ensures sheet { result.sheet ≡ M.read_answer o (lent o schema rows) message.now budget out.old }
     ensures output { out.new ≡ M.read_out o (lent o schema rows) message.now budget out.old }
     // the part lies in the message
-    ensures within { result.text.start + result.text.length ≤ length message.now }
+    ensures within { IfSome result.text (λ c. c.start + c.length ≤ length message.now) }
     // "texts and bytes can be had as a part of the message": there is a part exactly where the field's answer is a text or bytes
-    ensures exactly { (result.text.there ≡ true) ↔ ((k at n : ℕ) × (F.field o (lent o schema rows) message.now path.now ≡ Answer.Object k at n) × IsText k) }
+    ensures exactly { IsSome result.text ↔ ((k at n : ℕ) × (F.field o (lent o schema rows) message.now path.now ≡ Answer.Object k at n) × IsText k) }
     // and it has the answer's length
-    ensures long { (k at n : ℕ) → F.field o (lent o schema rows) message.now path.now ≡ Answer.Object k at n → IsText k → result.text.length ≡ n }
+    ensures long { (k at n : ℕ) → F.field o (lent o schema rows) message.now path.now ≡ Answer.Object k at n → IsText k → (start : ℕ) × (result.text ≡ Some (W.content_at start n)) }
     // "On an accepted message it equals the sheet's entry.": it is the text of the sheet that the rules give, handed out or not
     ensures text { Accepts o (lent o schema rows) message.now budget → length path.now ≤ 96 → F.text_of message.now result.text ≡ text_at (lent o schema rows) (M.message_sheet o (lent o schema rows) message.now) path.now }
     // and where the sheet is handed out, it stands in the output
@@ -397,7 +397,7 @@ pub fn text_and_sheet(
     // "with that table every public answer is equal to the old one"
     ensures right_table { TableOf o schema.now rows.now → result.text ≡ F.field_span o schema.now message.now path.now }
     // "Any other table handed in gets refusal 1"
-    ensures other_table { (TableOf o schema.now rows.now → ⊥) → result.text ≡ F.no_span }
+    ensures other_table { (TableOf o schema.now rows.now → ⊥) → result.text ≡ None }
 {
     let text = field::text_span(schema, rows, message, path, o);
     let read = sheet::read(schema, rows, message, budget, out, o);

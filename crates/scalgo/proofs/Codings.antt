@@ -1,5 +1,5 @@
 -- Answers under the width that a coding's number names.
-use mathlib.Core.Path.{◌≡◌, ap, ◌∙◌}
+use mathlib.Core.Path.{◌≡◌, sym, ap, ◌∙◌}
 use mathlib.Core.List.{List}
 use Prim.Native.Nat.{ℕ}
 use Rattle.coding.specs.Walk.{verdict}
@@ -9,7 +9,9 @@ use Rattle.coding.specs.Message.{read_answer, read_out, write_answer, write_out}
 use Rattle.coding.specs.declared.Budget.{Budget}
 use Rattle.coding.specs.declared.Verdict.{Verdict}
 use Rattle.coding.specs.declared.Answer.{Answer}
-use Rattle.coding.specs.declared.Span.{Span}
+use Rattle.std.specs.Prelude.{Option, Some, None}
+use Rattle.coding.specs.declared.Content.{Content}
+use Rattle.scalgo.specs.Numbers.{there, start_of, length_of}
 use Rattle.coding.specs.declared.ReadAnswer.{ReadAnswer}
 use Rattle.coding.specs.declared.WriteAnswer.{WriteAnswer}
 
@@ -22,8 +24,36 @@ module _ (o w : ℕ) (e : o ≡ w) (b : List ℕ) where
     pub field_by : (p : List ℕ) (r : Answer) → r ≡ field o (with_table o b t) m p → r ≡ field w (with_table w b t) m p
     field_by p r h = h ∙ ap (λ (k : ℕ). field k (with_table k b t) m p) e
 
-    pub span_by : (p : List ℕ) (r : Span) → r ≡ field_span o (with_table o b t) m p → r ≡ field_span w (with_table w b t) m p
-    span_by p r h = h ∙ ap (λ (k : ℕ). field_span k (with_table k b t) m p) e
+    module _ (p : List ℕ) (r : Option Content) (h : r ≡ field_span o (with_table o b t) m p) where
+      span_by : r ≡ field_span w (with_table w b t) m p
+      span_by = h ∙ ap (λ (k : ℕ). field_span k (with_table k b t) m p) e
+
+      -- the three numbers of a part, and of none
+      module _ (c : Content) (is : r ≡ Some c) where
+        pub some_there : 1 ≡ there (field_span w (with_table w b t) m p)
+        unfolding there
+        some_there = ap there (sym is ∙ span_by)
+
+        pub some-start : c.start ≡ start_of (field_span w (with_table w b t) m p)
+        unfolding start_of
+        some-start = ap start_of (sym is ∙ span_by)
+
+        pub some-length : c.length ≡ length_of (field_span w (with_table w b t) m p)
+        unfolding length_of
+        some-length = ap length_of (sym is ∙ span_by)
+
+      module _ (is : r ≡ None) where
+        pub none_there : 0 ≡ there (field_span w (with_table w b t) m p)
+        unfolding there
+        none_there = ap there (sym is ∙ span_by)
+
+        pub none-start : 0 ≡ start_of (field_span w (with_table w b t) m p)
+        unfolding start_of
+        none-start = ap start_of (sym is ∙ span_by)
+
+        pub none-length : 0 ≡ length_of (field_span w (with_table w b t) m p)
+        unfolding length_of
+        none-length = ap length_of (sym is ∙ span_by)
 
     pub count_by : (p : List ℕ) (r : ℕ) → r ≡ reader_count o (with_table o b t) m p → r ≡ reader_count w (with_table w b t) m p
     count_by p r h = h ∙ ap (λ (k : ℕ). reader_count k (with_table k b t) m p) e

@@ -5,12 +5,11 @@ ghost use Rattle.std.specs.Prelude.{◌≡◌, ◌+◌, ◌≤◌};
 ghost use Rattle.std.proofs.Math.ListN as N;
 ghost use Rattle.coding.specs.Bytes as B;
 ghost use Rattle.coding.specs.Field as F;
-ghost use Rattle.coding.specs.Lists.{pick};
 ghost use Rattle.coding.specs.Message as M;
 ghost use Rattle.coding.specs.Moving as Mv;
 ghost use Rattle.coding.specs.Positions as Po;
 ghost use Rattle.coding.specs.Walk as W;
-ghost use Rattle.scalgo.specs.Numbers.{verdict_numbers, lent};
+ghost use Rattle.scalgo.specs.Numbers.{verdict_numbers, there, start_of, length_of, lent};
 
 // Makes the table of member positions of a packed schema: answers the number, and stores the table's length.
 #[unsafe(no_mangle)]
@@ -76,9 +75,9 @@ pub extern "C" fn scalgo_text(
     start: &mut u64,
     length: &mut u64,
 ) -> u32
-    ensures value { result ≡ pick (F.field_span (B.width_of coding) (lent coding schema positions) message.now path.now).there 1 0 }
-    ensures start_after { start.new ≡ (F.field_span (B.width_of coding) (lent coding schema positions) message.now path.now).start }
-    ensures length_after { length.new ≡ (F.field_span (B.width_of coding) (lent coding schema positions) message.now path.now).length }
+    ensures value { result ≡ there (F.field_span (B.width_of coding) (lent coding schema positions) message.now path.now) }
+    ensures start_after { start.new ≡ start_of (F.field_span (B.width_of coding) (lent coding schema positions) message.now path.now) }
+    ensures length_after { length.new ≡ length_of (F.field_span (B.width_of coding) (lent coding schema positions) message.now path.now) }
     ensures length_bound { start.new + length.new ≤ N.length message.now }
 {
     scalgo::scalgo_text(coding, schema, positions, message, path, start, length)

@@ -1,4 +1,2 @@
-pub mod RecordCases
 pub mod Inside
 pub mod Access
-pub mod KindCases

@@ -1,5 +1,5 @@
 -- The directory: where each struct, list, union and table stands in the schema's bytes, and how large each struct is.
-use Rattle.std.specs.Prelude.{ℕ, ◌+◌, ◌*◌, ◌<◌, ◌≤◌, ◌≡◌, List, Bool, true, get_or, length}
+use Rattle.std.specs.Prelude.{ℕ, ◌+◌, ◌*◌, ◌<◌, ◌≤◌, ◌≡◌, List, Bool, true, get_or, length, Option, Some, None, IsSome}
 use Rattle.coding.specs.Lists.{pick, every}
 use Rattle.coding.specs.Packed.{struct_count, list_count, union_count, table_count, struct_place, union_place, table_place, blocks, records, parse}
 use Rattle.coding.specs.Lawful.{blocks_ok, struct_lawful, well_formed, lawful}
@@ -9,10 +9,10 @@ use Rattle.laws.specs.LawfulSound.{formed_sound}
 use Rattle.wire.specs.Sizes.{Width}
 use Rattle.schema.specs.Representatives.{Representatives}
 
--- n blocks were gone over, and their places stored from `base` on
-pub record Stored (b : List ℕ) (head low high start n base : ℕ) (before now : List ℕ) (r : ℕ) : Type 0 where
-  pub is : r ≡ pick (blocks_ok b head low high start n) (blocks b head start n) 0
-  pub entries : 0 < r → (i : ℕ) → i < n → get_or now (base + i) 0 ≡ blocks b head start i
+-- n blocks were gone over, and their places stored from `base` on: where they end, if each record count is in its range
+pub record Stored (b : List ℕ) (head low high start n base : ℕ) (before now : List ℕ) (r : Option ℕ) : Type 0 where
+  pub is : r ≡ pick (blocks_ok b head low high start n) (Some (blocks b head start n)) None
+  pub entries : IsSome r → (i : ℕ) → i < n → get_or now (base + i) 0 ≡ blocks b head start i
   pub kept : (k : ℕ) → k < base → get_or now k 0 ≡ get_or before k 0
 
 -- structs from 0, the first list's place at 64, unions from 128, tables from 192

@@ -19,7 +19,11 @@ use Rattle.coding.specs.declared.WriteAnswer.{WriteAnswer}
 use Rattle.laws.specs.Lists.{run_length}
 use Rattle.laws.specs.Rules.{lawful_counts}
 use Rattle.laws.specs.MemberPlaces.{tables_start, cleared-member, cleared-other, before-tables, table_head, table_argument, without-length}
-use Rattle.schema.specs.Directory.{Directory, AcceptedUnder, Block, Judged}
+use Rattle.std.specs.Prelude.{Option, Some, None}
+use Rattle.coding.specs.Lawful.{lawful}
+use Rattle.schema.specs.declared.held.Schema.{Schema}
+use Rattle.schema.specs.Parsed.{bytes_of, Held, held_is, held_none}
+use Rattle.schema.specs.Directory.{Directory, Accepted, Block}
 use Rattle.schema_cleared.specs.Rest.{first, rest, Kept}
 
 -- ---- the first byte of a record
@@ -148,13 +152,13 @@ start_kept b at block =
 pub start-inside : (b : List ℕ) (at : ℕ) → Block b 4 (P.table_place b 0) at → at ≤ length b
 start-inside b at block = let inside = block.inside in omega arith
 
-pub some-table : (b dir : List ℕ) → AcceptedUnder 6 b dir → 0 < P.table_count b
-some-table b dir a = let h = (lawful_counts b a.accepted.formed).some in omega arith
+pub some-table : (b dir : List ℕ) → Accepted b dir → 0 < P.table_count b
+some-table b dir a = let h = (lawful_counts b a.formed).some in omega arith
 
-module _ (b dir out₀ : List ℕ) (a : AcceptedUnder 6 b dir) where
+module _ (b out₀ : List ℕ) (o : ℕ) (e : o ≡ 6) (a : lawful o b ≡ true) where
   lawful_clears : M.clearing b ≡ Ms.message (M.without_inplace_unions b)
   unfolding M.clearing u48
-  lawful_clears = rw a.lawful
+  lawful_clears = rw (ap (λ (w : ℕ). lawful w b) (sym e) ∙ a)
 
   long : length (M.without_inplace_unions b) ≡ length b
   long = without-length b
@@ -190,19 +194,27 @@ module _ (b dir out₀ : List ℕ) (a : AcceptedUnder 6 b dir) where
         ∙ rw (lawful_clears, long, le-leb (length b) (length out₀) l)
 
 -- ---- any bytes
-module _ (b dir out : List ℕ) (r : Bool) (j : Judged 6 b dir r) where
-  pub schema_accepted : r ≡ true → AcceptedUnder 6 b dir
-  schema_accepted e = j.right e
-
-  not-lawful : r ≡ false → M.clearing b ≡ Ms.refused 1
+module _ (b out : List ℕ) (h : Option Schema) (j : Held 6 b h) where
+  not-lawful : h ≡ None → M.clearing b ≡ Ms.refused 1
   unfolding M.clearing u48
-  not-lawful e = rw (sym j.is ∙ e)
+  not-lawful e = rw (held_none 6 b h j e)
 
-  pub refused_answer : r ≡ false → (x : WriteAnswer) → x ≡ record { number = 1; length = 0 }
+  pub refused_answer : h ≡ None → (x : WriteAnswer) → x ≡ record { number = 1; length = 0 }
       → x ≡ Ms.write_room (M.clearing b) (length out)
   unfolding Ms.write_room
   refused_answer e x f = f ∙ rw (not-lawful e)
 
-  pub refused_out : r ≡ false → out ≡ Ms.write_over (M.clearing b) out
+  pub refused_out : h ≡ None → out ≡ Ms.write_over (M.clearing b) out
   unfolding Ms.write_over
   refused_out e = rw (not-lawful e)
+
+-- the schema that was found lawful
+module _ (b out : List ℕ) (h : Option Schema) (j : Held 6 b h) (s : Schema) (is : h ≡ Some s) where
+  pub held_wide : s.width ≡ 6
+  held_wide = let k : Held 6 b (Some s) = subst (Held 6 b) is j in k.1
+
+  pub held_answer : (x : WriteAnswer) → x ≡ Ms.write_room (M.clearing (bytes_of s)) (length out) → x ≡ Ms.write_room (M.clearing b) (length out)
+  held_answer = held_is 6 b h j s is (λ (w : ℕ) (c : List ℕ). Ms.write_room (M.clearing c) (length out))
+
+  pub held_out : (x : List ℕ) → x ≡ Ms.write_over (M.clearing (bytes_of s)) out → x ≡ Ms.write_over (M.clearing b) out
+  held_out = held_is 6 b h j s is (λ (w : ℕ) (c : List ℕ). Ms.write_over (M.clearing c) out)

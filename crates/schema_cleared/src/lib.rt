@@ -6,10 +6,11 @@ ghost use Rattle.coding.specs.Packed as P;
 ghost use Rattle.coding.specs.Message.{write_room, write_over};
 ghost use Rattle.coding.specs.Moving as M;
 ghost use Rattle.laws.specs.MemberPlaces.{tables_start};
-ghost use Rattle.schema.specs.Directory.{Directory, AcceptedUnder};
+ghost use Rattle.schema.specs.Parsed.{bytes_of};
 ghost use Rattle.schema_cleared.specs.Rest.{first, rest, Kept};
 
 use coding::WriteAnswer;
+use schema::{Packed, Schema};
 
 // The in-place flag in the first byte of a record.
 const IN_PLACE: u8 = 2;
@@ -45,47 +46,45 @@ fn copy(b: &[u8], from: usize, to: usize, out: &mut [u8])
     requires { (from ≤ to) × (to ≤ length b.now) × (length b.now ≤ length out.old) × Kept b.now from to }
     ensures { rest b.now out.new to ≡ rest b.now out.old from }
 {
-    let mut p = from;
-    while p < to {
+    for p in from..to {
         out[p] = wire::byte_in(b, p);
-        p += 1;
     }
 }
 
 // The records of table i.
-fn clear_records(b: &[u8], dir: &[u16], i: usize, out: &mut [u8])
-    requires { (Directory b.now dir.now) × (i < P.table_count b.now) × (length b.now ≤ length out.old) }
-    ensures { rest b.now out.new (P.table_place b.now (i + 1)) ≡ rest b.now out.old (P.table_place b.now i + 5) }
+fn clear_records(packed: &Packed, i: usize, out: &mut [u8])
+    requires { (i < P.table_count packed.now.bytes.now) × (length packed.now.bytes.now ≤ length out.old) }
+    ensures { rest packed.now.bytes.now out.new (P.table_place packed.now.bytes.now (i + 1)) ≡ rest packed.now.bytes.now out.old (P.table_place packed.now.bytes.now i + 5) }
 {
-    let at = schema::table_place(b, dir, i);
-    let n = schema::records(b, schema::TABLE_HEAD, at);
-    let mut j: usize = 0;
-    while j < n {
-        clear_record(b, schema::record_place(schema::TABLE_HEAD, at, j), out);
-        j += 1;
+    let at = packed.table_place(i);
+    let n = schema::records(packed.bytes, schema::TABLE_HEAD, at);
+    for j in 0..n {
+        clear_record(
+            packed.bytes,
+            schema::record_place(schema::TABLE_HEAD, at, j),
+            out,
+        );
     }
 }
 
 // Table i: its id and its count, and its records.
-fn clear_table(b: &[u8], dir: &[u16], i: usize, out: &mut [u8])
-    requires { (Directory b.now dir.now) × (i < P.table_count b.now) × (length b.now ≤ length out.old) }
-    ensures { rest b.now out.new (P.table_place b.now (i + 1)) ≡ rest b.now out.old (P.table_place b.now i) }
+fn clear_table(packed: &Packed, i: usize, out: &mut [u8])
+    requires { (i < P.table_count packed.now.bytes.now) × (length packed.now.bytes.now ≤ length out.old) }
+    ensures { rest packed.now.bytes.now out.new (P.table_place packed.now.bytes.now (i + 1)) ≡ rest packed.now.bytes.now out.old (P.table_place packed.now.bytes.now i) }
 {
-    let at = schema::table_place(b, dir, i);
-    copy(b, at, at + schema::TABLE_HEAD + 1, out);
-    clear_records(b, dir, i, out);
+    let at = packed.table_place(i);
+    copy(packed.bytes, at, at + schema::TABLE_HEAD + 1, out);
+    clear_records(packed, i, out);
 }
 
 // Every table.
-fn clear_tables(b: &[u8], dir: &[u16], out: &mut [u8])
-    requires { (Directory b.now dir.now) × (length b.now ≤ length out.old) }
-    ensures { out.new ≡ rest b.now out.old (tables_start b.now) }
+fn clear_tables(packed: &Packed, out: &mut [u8])
+    requires { length packed.now.bytes.now ≤ length out.old }
+    ensures { out.new ≡ rest packed.now.bytes.now out.old (tables_start packed.now.bytes.now) }
 {
-    let n = schema::count(b, schema::TABLES);
-    let mut i: usize = 0;
-    while i < n {
-        clear_table(b, dir, i, out);
-        i += 1;
+    let n = schema::count(packed.bytes, schema::TABLES);
+    for i in 0..n {
+        clear_table(packed, i, out);
     }
 }
 
@@ -93,24 +92,22 @@ fn clear_tables(b: &[u8], dir: &[u16], out: &mut [u8])
 fn refused(number: u8) -> WriteAnswer
     ensures { result ≡ record { number = number; length = 0 } }
 {
-    WriteAnswer {
-        number: number,
-        length: 0,
-    }
+    WriteAnswer { number, length: 0 }
 }
 
-// A lawful schema: 14, or else its bytes with the flags cleared.
-fn clear_lawful(b: &[u8], dir: &[u16], out: &mut [u8]) -> WriteAnswer
-    requires { AcceptedUnder 6 b.now dir.now }
-    ensures value { result ≡ write_room (M.clearing b.now) (length out.old) }
-    ensures out_after { out.new ≡ write_over (M.clearing b.now) out.old }
+// A schema that is lawful under the 48-bit coding: 14, or else its bytes with the flags cleared.
+fn clear_lawful(schema: &Schema, out: &mut [u8]) -> WriteAnswer
+    requires { schema.now.width ≡ 6 }
+    ensures value { result ≡ write_room (M.clearing (bytes_of schema.now)) (length out.old) }
+    ensures out_after { out.new ≡ write_over (M.clearing (bytes_of schema.now)) out.old }
 {
+    let b = schema.packed.bytes;
     let n = b.len();
     if out.len() < n {
         return refused(14);
     }
-    copy(b, 0, schema::table_place(b, dir, 0), out);
-    clear_tables(b, dir, out);
+    copy(b, 0, schema.packed.table_place(0), out);
+    clear_tables(&schema.packed, out);
     WriteAnswer {
         number: 0,
         length: n,
@@ -123,9 +120,9 @@ pub fn clear_unions(b: &[u8], out: &mut [u8]) -> WriteAnswer
     ensures value { result ≡ write_room (M.clearing b.now) (length out.old) }
     ensures out_after { out.new ≡ write_over (M.clearing b.now) out.old }
 {
-    let mut dir: [u16; 384] = [0; 384];
-    if schema_lawful::judge_schema(b, &mut dir, wire::U48) {
-        return clear_lawful(b, &dir, out);
+    let mut directory: [u16; schema::DIRECTORY] = [0; schema::DIRECTORY];
+    match schema_lawful::judge_schema(b, &mut directory, wire::U48) {
+        Some(schema) => clear_lawful(&schema, out),
+        None => refused(1),
     }
-    refused(1)
 }

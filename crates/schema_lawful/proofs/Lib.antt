@@ -1,2 +1,0 @@
-pub mod PartRules
-pub mod OlderRules

@@ -1,3 +1,3 @@
-pub mod RecordRules
-pub mod DirectRules
-pub mod BlockRules
+mod Counting
+mod NumberRules
+mod DirectRules

@@ -1,6 +1,5 @@
 -- Struct sizes: one lemma for each way out of the code, and what is left of a struct's total.
 use mathlib.Core.Path.{◌≡◌, refl, sym, ◌∙◌}
-use mathlib.Core.Bool.{Bool}
 use mathlib.Core.List.{List}
 use Prim.Native.Nat.{ℕ, zero, suc, ◌+◌, ◌<◌, ◌≤◌}
 use native.Mathlib.Numerals.{add-one}
@@ -12,9 +11,9 @@ use Rattle.coding.specs.Packed as P
 use Rattle.coding.specs.Schema as Sc
 use Rattle.coding.specs.Structs as S
 use Rattle.coding.specs.declared.Flat.{Flat}
-use Rattle.coding.specs.declared.Flat.TheVariants.{Boolean, Integer, Float, Enumerated, Struct}
+use Rattle.coding.specs.declared.Flat.TheVariants.{Boolean, Struct}
 use Rattle.laws.specs.Structs.{lower_is}
-use Rattle.schema.specs.Directory.{Sizes, SmallBelow}
+use Rattle.schema.specs.Directory.{SmallBelow}
 
 -- an index that is not lower counts nothing
 lower_past : {A : Type 0} (z : A) (f : (ℕ → A) → ℕ → A) (n j : ℕ) → n ≤ j → S.lower z f n j ≡ z
@@ -24,24 +23,7 @@ lower_past z f (suc n) j l =
     let e : j ≡ n → ⊥ = λ q. omega arith in
     simp (ne_eqb j n e) (lower_past z f n j (omega arith))
 
--- ---- a field's width
-module _ (inner : ℕ → ℕ) (f : Flat) where
-  pub size_1 : f ≡ Boolean → 1 ≡ S.flat_width inner f
-  unfolding S.flat_width
-  size_1 e = simp e
-
-  pub size_2 : (g : Bool) (w r : ℕ) → f ≡ Integer g w → r ≡ w → r ≡ S.flat_width inner f
-  unfolding S.flat_width
-  size_2 g w r e h = simp e h
-
-  pub size_3 : (w r : ℕ) → f ≡ Float w → r ≡ w → r ≡ S.flat_width inner f
-  unfolding S.flat_width
-  size_3 w r e h = simp e h
-
-  pub size_4 : (n : ℕ) → f ≡ Enumerated n → 1 ≡ S.flat_width inner f
-  unfolding S.flat_width
-  size_4 n e = simp e
-
+-- ---- the width of a member that is a struct
 module _ (b : List ℕ) (s : ℕ) (f : Flat) (a i : ℕ) (e : f ≡ Struct a) (h : i ≡ a) where
   pub size_5 : i < s → (r : ℕ) → r ≡ S.struct_size (P.parse b) i → r ≡ S.flat_width (S.lower 0 (S.size_by (P.parse b)) s) f
   unfolding S.flat_width S.struct_size
@@ -57,12 +39,6 @@ module _ (b : List ℕ) (s : ℕ) (f : Flat) (a i : ℕ) (e : f ≡ Struct a) (h
 
 pub size_5_small : (b : List ℕ) (s i r : ℕ) → i < s → r ≡ S.struct_size (P.parse b) i → SmallBelow b s → r ≤ 4096
 size_5_small b s i r l er g = omega (arith, g i l)
-
-pub smaller : (b : List ℕ) (s i : ℕ) → SmallBelow b s → i < s → SmallBelow b i
-smaller b s i g l k m = g k (omega arith)
-
-pub size-known : (b dir : List ℕ) (known s r : ℕ) → Sizes b dir known → s < known → r ≡ get_or dir (256 + s) 0 → r ≡ S.struct_size (P.parse b) s
-size-known b dir known s r g l e = e ∙ g s l
 
 -- ---- the loop: what is left of the total
 total_step : (inner : ℕ → ℕ) (ks : List Flat) (j : ℕ) → j < length ks

@@ -37,31 +37,29 @@ directory_kept b d d' D e kept =
     }
 
 -- the loop's invariant: i structs are lawful, and their sizes stored
-pub record Sizing (b d : List ℕ) (n i : ℕ) : Type 0 where
-  pub in_range : i ≤ n
+pub record Sizing (b d : List ℕ) (i : ℕ) : Type 0 where
   pub directory : Directory b d
   pub sizes : Sizes b d i
   pub good : every (L.struct_lawful b) i ≡ true
 
-module _ (b d : List ℕ) (n : ℕ) where
-  pub sizing_none : Directory b d → Sizing b d n 0
-  sizing_none D =
-      record { in_range = omega arith; directory = D; sizes = λ k m. absurd (omega arith); good = every_none (L.struct_lawful b) }
+module _ (b d : List ℕ) where
+  pub sizing_none : Directory b d → Sizing b d 0
+  sizing_none D = record { directory = D; sizes = λ k m. absurd (omega arith); good = every_none (L.struct_lawful b) }
 
-  module _ (i : ℕ) (g : Sizing b d n i) (en : n ≡ P.struct_count b) where
-    pub sizing_done : n ≤ i → StructsJudged b d true
-    sizing_done l =
-        let z : i ≡ P.struct_count b = omega (arith, g.in_range) in
+  pub small-below : (i : ℕ) → Sizing b d i → SmallBelow b i
+  unfolding L.struct_lawful
+  small-below i g k m =
+      leb-true _ _ (both_right (L.records_ok b (InStruct k) 0 (P.struct_place b k)) _ (every-at (L.struct_lawful b) i k g.good m))
+
+  module _ (i : ℕ) (g : Sizing b d i) (n : ℕ) (en : n ≡ P.struct_count b) where
+    pub sizing_done : i ≤ n → n ≤ i → StructsJudged b d true
+    sizing_done m l =
+        let z : i ≡ P.struct_count b = omega arith in
         record {
           is = rw (← z) (sym g.good);
           directory = g.directory;
           sizes = λ q k m. g.sizes k (omega arith);
         }
-
-    pub small-below : SmallBelow b i
-    unfolding L.struct_lawful
-    small-below k m =
-        leb-true _ _ (both_right (L.records_ok b (InStruct k) 0 (P.struct_place b k)) _ (every-at (L.struct_lawful b) i k g.good m))
 
     module _ (l : i < n) (r : Bool) (er : r ≡ L.records_ok b (InStruct i) 0 (P.struct_place b i)) where
       refused : L.struct_lawful b i ≡ false → StructsJudged b d false
@@ -85,13 +83,12 @@ module _ (b d : List ℕ) (n : ℕ) where
           kept : (k : ℕ) → k < 256 → get_or d' k 0 ≡ get_or d k 0
           kept k m = ap (λ (x : List ℕ). get_or x k 0) ed ∙ get_or-set_other d (256 + i) k z 0 (λ q. omega arith)
 
-          pub sizing_more : Sizing b d' n (i + 1)
+          pub sizing_more : Sizing b d' (i + 1)
           unfolding L.struct_lawful
           sizing_more =
               let D : Directory b d = g.directory in
               let f : 256 + i < length d = omega (arith, D.long, D.few_structs) in
               record {
-                in_range = omega arith;
                 directory = directory_kept b d d' D (ap length ed ∙ length-set d (256 + i) z) kept;
                 sizes = below_more (λ (k : ℕ). get_or d' (256 + k) 0 ≡ S.struct_size (P.parse b) k) i
                     (λ k m. ap (λ (x : List ℕ). get_or x (256 + k) 0) ed ∙ get_or-set_other d (256 + i) (256 + k) z 0 (λ q. omega arith) ∙ g.sizes k m)

@@ -1,4 +1,5 @@
 -- A walk that goes on found an object readable; a walk that was refused has a number that is not 0.
+use Rattle.std.specs.Prelude.{Result, Ok, Err}
 use mathlib.Core.Path.{◌≡◌, refl, sym, ap, subst}
 use mathlib.Core.Bool.{Bool, true, false, ◌&&◌}
 use mathlib.Core.List.{List, [], ◌∷◌}
@@ -15,6 +16,7 @@ use Rattle.coding.specs.Structs.{flat_width, struct_size, struct_ok}
 use Rattle.coding.specs.Layout as L
 use Rattle.coding.specs.Step as T
 use Rattle.coding.specs.Walk as W
+use Rattle.coding.specs.Walk.{Walked}
 use Rattle.coding.specs.declared.Flat.{Flat}
 use Rattle.coding.specs.declared.Flat.TheVariants as F
 use Rattle.coding.specs.declared.Object.{Object}
@@ -28,12 +30,9 @@ use Rattle.coding.specs.declared.Place.{Place}
 use Rattle.coding.specs.declared.Place.TheVariants.{ByOffset, InPlace}
 use Rattle.coding.specs.declared.Step.{Step}
 use Rattle.coding.specs.declared.Step.TheVariants as St
-use Rattle.coding.specs.declared.Opened.{Opened}
-use Rattle.coding.specs.declared.Opened.TheVariants as Op
+use Rattle.coding.specs.declared.Content.{Content}
 use Rattle.coding.specs.declared.Budget.{Budget}
 use Rattle.coding.specs.declared.Spent.{Spent}
-use Rattle.coding.specs.declared.Walked.{Walked}
-use Rattle.coding.specs.declared.Walked.TheVariants.{Going, Refused}
 use Rattle.laws.specs.Sound.{All, FlatSound, ObjectSound, KindSound, MemberSound, NoStruct, Sound}
 use Rattle.laws.specs.SoundAt.{case_sound-at}
 use Rattle.message_step.specs.Lead.{reached, reach_of}
@@ -127,17 +126,17 @@ module _ (o : ℕ) (S : Schema) (sound : Sound S) (m : List ℕ) where
 
 -- ---- what a walk says: P where it goes on, and a number where it is refused
 abbrev pub Says : Type 0 → Walked → Type 0
-Says P (Going s) = P
-Says P (Refused r s) = r.number ≡ 0 → ⊥
+Says P (Ok s) = P
+Says P (Err (r, s)) = r.number ≡ 0 → ⊥
 
 says_map : (P Q : Type 0) → (P → Q) → (w : Walked) → Says P w → Says Q w
-says_map P Q f (Going s) h = f h
-says_map P Q f (Refused r s) h = h
+says_map P Q f (Ok s) h = f h
+says_map P Q f (Err (r, s)) h = h
 
 says_then : (P Q : Type 0) (w : Walked) (next : Spent → Walked) → Says P w → ((s : Spent) → Says Q (next s)) → Says (P × Q) (W.and_then w next)
 unfolding W.and_then
-says_then P Q (Going s) next h k = says_map Q (P × Q) (λ q. (h, q)) (next s) (k s)
-says_then P Q (Refused r s) next h k = h
+says_then P Q (Ok s) next h k = says_map Q (P × Q) (λ q. (h, q)) (next s) (k s)
+says_then P Q (Err (r, s)) next h k = h
 
 refuse_says : (P : Type 0) (n at : ℕ) (s : Spent) → (n ≡ 0 → ⊥) → Says P (W.refuse n at s)
 unfolding W.refuse
@@ -217,7 +216,7 @@ module _ (o : ℕ) (S : Schema) (sound : Sound S) (m : List ℕ) (child : W.Chil
     where
       tested : (t u : Bool) (v : Spent) → start + W.content_size o S m ob holder n ≤ length m
           → Says (D.Entered o good S m ob holder start n)
-          (W.enter child o S m ob holder (pick t (pick u (Op.Content start n) (Op.Refused 16)) (Op.Refused 10)) v)
+          (W.enter child o S m ob holder (pick t (pick u (Ok (W.content_at start n)) (Err 16)) (Err 10)) v)
       tested true true v h =
           says_map (D.ContentReadable o good S m ob holder start n) (D.Entered o good S m ob holder start n) (λ q. record { sound = l; inside = h; parts = q })
           (W.content child o S m ob holder start n v) (content_says ob holder start n v l h)
@@ -225,16 +224,16 @@ module _ (o : ℕ) (S : Schema) (sound : Sound S) (m : List ℕ) (child : W.Chil
       tested false u v h = refuse_says (D.Entered o good S m ob holder start n) 10 holder v (λ z. omega arith)
 
       by : (t : Bool) → leb (start + W.content_size o S m ob holder n) (length m) ≡ t
-          → Says (D.Entered o good S m ob holder start n) (W.admit child o S m b ob holder (pick t (Op.Content start n) (Op.Refused 6)) s)
+          → Says (D.Entered o good S m ob holder start n) (W.admit child o S m b ob holder (pick t (Ok (W.content_at start n)) (Err 6)) s)
       by true e =
           let v = W.with_content (W.content_length o S ob n) s in
           pick_says (D.Entered o good S m ob holder start n) (leb (s.content + W.content_length o S ob n) b.content)
-          (W.enter child o S m ob holder (W.bytes_tested m ob (Op.Content start n)) v) (W.refuse 17 holder s)
+          (W.enter child o S m ob holder (W.bytes_tested m ob (Ok (W.content_at start n))) v) (W.refuse 17 holder s)
           (λ _. tested (W.end_ok m ob start n) (W.text_ok m ob start n) v (leb-true _ _ e)) (refuse_says (D.Entered o good S m ob holder start n) 17 holder s (λ z. omega arith))
       by false e = refuse_says (D.Entered o good S m ob holder start n) 6 holder s (λ z. omega arith)
 
   -- the header of a direct list is tested besides
-  header_says : (b : Budget) (P : Type 0) (ob : Object) (x : ℕ) (fit : Opened) (s : Spent) → Says P (W.admit child o S m b ob x fit s)
+  header_says : (b : Budget) (P : Type 0) (ob : Object) (x : ℕ) (fit : Result Content ℕ) (s : Spent) → Says P (W.admit child o S m b ob x fit s)
       → Says P (W.admit child o S m b ob x (W.header_tested o S m ob x fit) s)
   unfolding W.header_tested W.direct_header W.admit
   header_says b P O.Text x fit s h = h
@@ -243,7 +242,7 @@ module _ (o : ℕ) (S : Schema) (sound : Sound S) (m : List ℕ) (child : W.Chil
   header_says b P (O.Table i) x fit s h = h
   header_says b P (O.DirectList i) x fit s h = by (eqb (W.element_id o m x) (Sc.table_of S i).id) (leb (le m (x + 4) o) W.most_elements)
     where
-      by : (t u : Bool) → Says P (W.admit child o S m b (O.DirectList i) x (pick t (pick u fit (Op.Refused 6)) (Op.Refused 7)) s)
+      by : (t u : Bool) → Says P (W.admit child o S m b (O.DirectList i) x (pick t (pick u fit (Err 6)) (Err 7)) s)
       by true true = h
       by true false = refuse_says P 6 x s (λ z. omega arith)
       by false u = refuse_says P 7 x s (λ z. omega arith)
@@ -253,15 +252,15 @@ module _ (o : ℕ) (S : Schema) (sound : Sound S) (m : List ℕ) (child : W.Chil
   unfolding W.arrive W.admit W.fit_object D.HeaderInside D.start_of D.length_of W.placed
   arrive_says b ob (ByOffset x) s l = by (leb (W.start_size o) x) (leb (x + W.header_size o ob) (length m)) (eqb (le m x 4) (W.magic S ob)) refl
     where
-      fit : Opened
+      fit : Result Content ℕ
       fit = W.fit_content o S m ob x (x + W.header_size o ob) (le m (x + 4) o)
 
       by : (t u v : Bool) → leb (x + W.header_size o ob) (length m) ≡ u
           → Says ((x + W.header_size o ob ≤ length m) × D.Entered o good S m ob x (x + W.header_size o ob) (le m (x + 4) o))
           (W.admit child o S m b ob x
           (pick (t && u)
-          (pick v (W.header_tested o S m ob x (W.fit_content o S m ob x (x + W.header_size o ob) (le m (x + 4) o))) (Op.Refused 7))
-          (Op.Refused 6)) s)
+          (pick v (W.header_tested o S m ob x (W.fit_content o S m ob x (x + W.header_size o ob) (le m (x + 4) o))) (Err 7))
+          (Err 6)) s)
       by true true true e =
           let h = leb-true _ _ e in
           says_map (D.Entered o good S m ob x (x + W.header_size o ob) (le m (x + 4) o))
@@ -274,7 +273,7 @@ module _ (o : ℕ) (S : Schema) (sound : Sound S) (m : List ℕ) (child : W.Chil
       by false u v e = refuse_says _ 6 x s (λ z. omega arith)
   arrive_says b ob (InPlace a n) s l = by (W.stands_in_place ob)
     where
-      by : (t : Bool) → Says (Unit {0} × D.Entered o good S m ob a a n) (W.admit child o S m b ob a (pick t (W.fit_content o S m ob a a n) (Op.Refused 6)) s)
+      by : (t : Bool) → Says (Unit {0} × D.Entered o good S m ob a a n) (W.admit child o S m b ob a (pick t (W.fit_content o S m ob a a n) (Err 6)) s)
       by true =
           says_map (D.Entered o good S m ob a a n) (Unit {0} × D.Entered o good S m ob a a n) (λ q. (tt, q))
           (W.admit child o S m b ob a (W.fit_content o S m ob a a n) s) (open_says b ob a a n s l)

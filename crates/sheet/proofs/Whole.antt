@@ -1,5 +1,6 @@
 -- The whole sheet: an accepted message is readable; counting the bits, filling the buffer, and the answers. `w` is the width of an
 -- offset in bytes.
+use Rattle.std.specs.Prelude.{Ok, Err, Option, Some, None}
 use mathlib.Core.Path.{◌≡◌, refl, sym, ap, ap₂, ◌∙◌, subst}
 use mathlib.Core.Bool.{Bool, true, false}
 use mathlib.Core.List.{List, [], ◌∷◌, ◌++◌}
@@ -16,21 +17,21 @@ use Rattle.coding.specs.Packed as P
 use Rattle.coding.specs.Lawful.{lawful}
 use Rattle.coding.specs.Positions.{with_table}
 use Rattle.coding.specs.Walk as W
+use Rattle.coding.specs.Walk.{Walked}
 use Rattle.coding.specs.Bits.{bits, packed, byte_count}
 use Rattle.coding.specs.Sheet as E
 use Rattle.coding.specs.Message as M
 use Rattle.coding.specs.declared.Object.TheVariants as O
 use Rattle.coding.specs.declared.Budget.{Budget}
-use Rattle.coding.specs.declared.Walked.{Walked}
-use Rattle.coding.specs.declared.Walked.TheVariants.{Going, Refused}
 use Rattle.coding.specs.declared.Verdict.{Verdict}
 use Rattle.coding.specs.declared.ReadAnswer.{ReadAnswer}
 use Rattle.laws.specs.All.{all_index}
 use Rattle.laws.specs.Lists.{both_left, both_right}
 use Rattle.laws.specs.Bits.{Byte, packed-length}
-use Rattle.schema.specs.Directory.{Accepted, AcceptedUnder, accepted_sound}
-use Rattle.positions.specs.Rows.{TableJudged}
-use Rattle.positions.specs.Lent.{lent_is, lent_refused}
+use Rattle.schema.specs.Directory.{Accepted, accepted_sound}
+use Rattle.schema.specs.Parsed.{bytes_of}
+use Rattle.positions.specs.declared.indexed.Indexed.{Indexed}
+use Rattle.positions.specs.Lent.{HeldWith, lent_is, lent_refused}
 use Rattle.bitio.specs.Puts.{Room, Puts, saturated}
 use Rattle.bitio.specs.Filled.{sheet_filled}
 use Rattle.sheet_walk.specs.MessageBits as A
@@ -41,8 +42,8 @@ use Rattle.sheet.proofs.Walked.{Says, visit_says}
 -- ---- acceptance
 says-number : (Q : Type 0) (w : Walked) → Says Q w → (W.verdict_of w).number ≡ 0 → Q
 unfolding W.verdict_of
-says-number Q (Going s) h e = h
-says-number Q (Refused r s) h e = absurd (h e)
+says-number Q (Ok s) h e = h
+says-number Q (Err (r, s)) h e = absurd (h e)
 
 sizes : (w : ℕ) (m : List ℕ) → W.size_ok w m ≡ true → (W.start_size w ≤ length m) × (length m ≤ 16777215)
 unfolding W.size_ok largest
@@ -60,18 +61,18 @@ rooted w b dir m a budget q =
     (visit_says w (P.parse b) (accepted_sound b dir a) m budget deepest (O.Table (P.parse b).root) (W.root_place w m) W.nothing (accepted_sound b dir a).root)
     q
 
-pub message_readable : (w : ℕ) (b dir m : List ℕ) → AcceptedUnder w b dir → (budget : Budget) (v : Verdict) → v ≡ W.verdict w b m budget → v.number ≡ 0 → D.MessageReadable w (P.parse b) m
+pub message_readable : (w : ℕ) (b dir m : List ℕ) → Accepted b dir → lawful w b ≡ true → (budget : Budget) (v : Verdict) → v ≡ W.verdict w b m budget → v.number ≡ 0 → D.MessageReadable w (P.parse b) m
 unfolding W.verdict W.early W.nothing
-message_readable w b dir m a budget v ev h =
+message_readable w b dir m a law budget v ev h =
     by (W.size_ok w m) (W.start_ok m) refl
     (subst (λ (x : Verdict). x.number ≡ 0)
-    (ev ∙ ap (λ (t : Bool). pick t (pick (W.size_ok w m) (pick (W.start_ok m) (W.verdict_of (W.walk w (P.parse b) m budget)) (W.early 3)) (W.early 2)) (W.early 1)) a.lawful) h)
+    (ev ∙ ap (λ (t : Bool). pick t (pick (W.size_ok w m) (pick (W.start_ok m) (W.verdict_of (W.walk w (P.parse b) m budget)) (W.early 3)) (W.early 2)) (W.early 1)) law) h)
   where
     sized : W.size_ok w m ≡ true → (W.start_size w ≤ length m) × (length m ≤ 16777215)
     sized e = sizes w m e
 
     by : (t u : Bool) → W.size_ok w m ≡ t → (pick t (pick u (W.verdict_of (W.walk w (P.parse b) m budget)) (W.early 3)) (W.early 2)).number ≡ 0 → D.MessageReadable w (P.parse b) m
-    by true true e q = record { long = (sized e).0; short = (sized e).1; root = rooted w b dir m a.accepted budget q }
+    by true true e q = record { long = (sized e).0; short = (sized e).1; root = rooted w b dir m a budget q }
     by true false e q = absurd (let z : 3 ≡ 0 = q in omega arith)
     by false u e q = absurd (let z : 2 ≡ 0 = q in omega arith)
 
@@ -202,29 +203,27 @@ module _ (w : ℕ) (b m o : List ℕ) (budget : Budget) (v : Verdict) (ev : v �
     refused_over = simp (← ev, ne_eqb _ _ h)
 
 -- ---- a schema with a table
-abbrev unlawful_schema : Verdict
-unlawful_schema = record { number = 1; place = 0; member = 4294967295; visits = 0; content = 0 }
+module _ (w : ℕ) (b rows m o : List ℕ) (budget : Budget) (h : Option Indexed) (e : HeldWith w b rows h) where
+  pub lent_answer : (x : Indexed) → h ≡ Some x → (r : ReadAnswer) → r ≡ M.read_answer x.schema.width (bytes_of x.schema) m budget o
+      → r ≡ M.read_answer w (with_table w b rows) m budget o
+  lent_answer x is r q = lent_is w b rows h e x is (λ (i : ℕ) (s : List ℕ). M.read_answer i s m budget o) r q
 
-unlawful : (w : ℕ) (b m : List ℕ) (budget : Budget) → lawful w b ≡ false → W.verdict w b m budget ≡ unlawful_schema
-unfolding W.verdict W.early W.nothing W.no_member
-unlawful w b m budget e = simp e
-
-module _ (w : ℕ) (b rows dir m o : List ℕ) (budget : Budget) (t : Bool) (j : TableJudged w b rows dir t) where
-  -- the right table
-  module _ (f : t ≡ true) where
-    pub lent_answer : (r : ReadAnswer) → r ≡ M.read_answer w b m budget o → r ≡ M.read_answer w (with_table w b rows) m budget o
-    lent_answer r e = lent_is w b rows dir t j f (λ (s : List ℕ). M.read_answer w s m budget o) r e
-
-    pub lent_over : (o₁ : List ℕ) → o₁ ≡ M.read_out w b m budget o → o₁ ≡ M.read_out w (with_table w b rows) m budget o
-    lent_over o₁ e = lent_is w b rows dir t j f (λ (s : List ℕ). M.read_out w s m budget o) o₁ e
+  pub lent_over : (x : Indexed) → h ≡ Some x → (o₁ : List ℕ) → o₁ ≡ M.read_out x.schema.width (bytes_of x.schema) m budget o
+      → o₁ ≡ M.read_out w (with_table w b rows) m budget o
+  lent_over x is o₁ q = lent_is w b rows h e x is (λ (i : ℕ) (s : List ℕ). M.read_out i s m budget o) o₁ q
 
   -- a schema that is not lawful, or another table
-  module _ (f : t ≡ false) where
-    refused : W.verdict w (with_table w b rows) m budget ≡ unlawful_schema
-    refused = unlawful w (with_table w b rows) m budget (lent_refused w b rows dir t j f)
+  module _ (is : h ≡ None) (v : Verdict) (ev : v ≡ W.early 1) where
+    refused : v ≡ W.verdict w (with_table w b rows) m budget
+    unfolding W.verdict
+    refused = simp (lent_refused w b rows h e is) ev
 
-    pub unlawful_answer : record { verdict = unlawful_schema; length = 0 } ≡ M.read_answer w (with_table w b rows) m budget o
-    unlawful_answer = refused_answer w (with_table w b rows) m o budget unlawful_schema (sym refused) (λ e. omega arith)
+    some : v.number ≡ 0 → ⊥
+    unfolding W.early
+    some z = let n : ◌≡◌ {A = ℕ} 1 0 = sym (ap (λ (x : Verdict). x.number) ev) ∙ z in omega arith
+
+    pub unlawful_answer : record { verdict = v; length = 0 } ≡ M.read_answer w (with_table w b rows) m budget o
+    unlawful_answer = refused_answer w (with_table w b rows) m o budget v refused some
 
     pub unlawful_over : o ≡ M.read_out w (with_table w b rows) m budget o
-    unlawful_over = refused_over w (with_table w b rows) m o budget unlawful_schema (sym refused) (λ e. omega arith)
+    unlawful_over = refused_over w (with_table w b rows) m o budget v refused some

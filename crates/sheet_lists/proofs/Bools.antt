@@ -1,25 +1,22 @@
--- The bools of a list: up to 32 are gathered into a number, and it is written at once.
+-- The bools of a list: eight bytes of them are a number.
 use mathlib.Core.Path.{◌≡◌, refl, sym, ap, ap₂, ◌∙◌, subst}
 use mathlib.Core.List.{List, [], ◌++◌, append_assoc, append-nil}
 use Prim.Native.Nat.{ℕ, zero, suc, ◌+◌, ◌-◌, ◌*◌, ◌/◌, ◌%◌, ◌^◌, ◌<◌, ◌≤◌}
 use native.Mathlib.Omega.{arith}
-use native.Mathlib.Nat.{zero-add}
-use lib.ListN.{length, get_or, length-append}
+use native.Mathlib.Nat.{zero-add, add-zero}
+use lib.ListN.{length, get_or, take, length-append}
+use lib.Seq.{take_at}
 use lib.Pow.{pow-add, shl_exact}
 use lib.Bits.{bit_or, or_shifted}
 use Rattle.coding.specs.Bytes.{bit_at}
 use Rattle.coding.specs.Bits.{bits_of, bits}
-use Rattle.laws.specs.Bits.{bits_of_join, bits_of-length}
+use Rattle.laws.specs.Bits.{bits_of_join, bits_of_split, bits_of-length}
 use Rattle.bits.specs.Reversed.{digit, reversed}
 use Rattle.bitio.specs.Splice.{splice}
-use Rattle.bitio.specs.Puts.{Room, Puts}
-use Rattle.bitio.specs.PutsLaws.{bits_in, run_over, run-not}
+use Rattle.bitio.specs.Puts.{Room, Puts, saturated}
+use Rattle.bitio.specs.PutsLaws.{bits_in, puts_none, puts-same, puts_then}
 use Rattle.sheet_lists.specs.Elements as A
-use Rattle.sheet_values.proofs.Remaining.{Remaining, remaining_all, remaining_turn, remaining_done}
-
-pub bool_is : (m : List ℕ) (start i j k x r : ℕ) → j ≡ i / 8 → k ≡ i % 8 → x ≡ get_or m (start + j) 0 → r ≡ x / 2 ^ k % 2 → r ≡ A.bool_at m start i
-unfolding A.bool_at bit_at
-bool_is m start i j k x r ej ek ex er = er ∙ ap₂ (λ (a c : ℕ). a / 2 ^ c % 2) (ex ∙ ap (λ (a : ℕ). get_or m (start + a) 0) ej) ek
+use Rattle.sheet_values.proofs.Cases.{counted_puts}
 
 -- the first a bools, and those after them
 bools_split : (m : List ℕ) (start a b i : ℕ) → A.bools_at m start (a + b) i ≡ A.bools_at m start a i ++ A.bools_at m start b (i + a)
@@ -35,32 +32,6 @@ bools_split m start (suc a) b i =
     ∙ ap (λ (l : List ℕ). bits_of 1 (A.bool_at m start i) ++ l) (bools_split m start a b (i + 1) ∙ ap (λ (k : ℕ). A.bools_at m start a (i + 1) ++ A.bools_at m start b k) y)
     ∙ sym (append_assoc (bits_of 1 (A.bool_at m start i)) (A.bools_at m start a (i + 1)) (A.bools_at m start b (i + suc a)))
 
--- ---- gathering
-pub gather_none : (m : List ℕ) (start i : ℕ) → bits_of 0 0 ≡ A.bools_at m start 0 i
-unfolding bits_of A.bools_at
-gather_none m start i = refl
-
-module _ (j v x : ℕ) (few : j < 32) (small : v < 2 ^ j) (bit : x < 2) where
-  joined : bit_or ((v * 2) % 2 ^ 64) x ≡ v * 2 ^ 1 + x
-  joined = ap (λ (k : ℕ). bit_or k x) (shl_exact j 1 64 small (omega arith)) ∙ or_shifted v 1 x bit
-
-  pub gather_small : bit_or ((v * 2) % 2 ^ 64) x < 2 ^ (j + 1)
-  gather_small = rw joined (omega (arith, pow-add 2 j 1))
-
-  pub gather_turn : (m : List ℕ) (start i : ℕ) → bits_of j v ≡ A.bools_at m start j i → x ≡ A.bool_at m start (i + j) → bits_of (j + 1) (bit_or ((v * 2) % 2 ^ 64) x) ≡ A.bools_at m start (j + 1) i
-  unfolding A.bools_at
-  gather_turn m start i inv ex =
-      ap (bits_of (j + 1)) joined ∙ bits_of_join j 1 v x bit
-      ∙ ap₂ ◌++◌ inv (ap (bits_of 1) ex ∙ one (A.bool_at m start (i + j)))
-      ∙ sym (bools_split m start j 1 i)
-    where
-      one : (y : ℕ) → bits_of 1 y ≡ bits_of 1 y ++ []
-      one y = sym (append-nil (bits_of 1 y))
-
-pub gather_done : (m : List ℕ) (start i j n v : ℕ) → bits_of j v ≡ A.bools_at m start j i → j ≤ n → n ≤ j → bits_of n v ≡ A.bools_at m start n i
-gather_done m start i j n v inv h l = let z : j ≡ n = omega arith in subst (λ (k : ℕ). bits_of k v ≡ A.bools_at m start k i) z inv
-
--- ---- the list
 bools-length : (m : List ℕ) (start n i : ℕ) → length (A.bools_at m start n i) ≡ n
 unfolding A.bools_at
 bools-length m start zero i = refl
@@ -68,41 +39,6 @@ bools-length m start (suc n) i =
     length-append (bits_of 1 (A.bool_at m start i)) (A.bools_at m start n (i + 1))
     ∙ ap₂ ◌+◌ (bits_of-length 1 (A.bool_at m start i)) (bools-length m start n (i + 1))
     ∙ (let z : 1 + n ≡ suc n = omega arith in z)
-
-module _ (o : List ℕ) (p : ℕ) (m : List ℕ) (start n : ℕ) (g : Room o p) where
-  pub bools_over : 134217720 < p + n → Puts o p (A.bools_at m start n 0) o 134217721
-  bools_over h = run_over o p n (A.bools_at m start n 0) g (bools-length m start n 0) h
-
-  pub bools-not : p + n ≤ 134217720 → 8 * length o < p + n → Puts o p (A.bools_at m start n 0) o (p + n)
-  bools-not h l = run-not o p n (A.bools_at m start n 0) g (bools-length m start n 0) h l
-
-  -- what remains behind whole words
-  bools-rest : (o₁ : List ℕ) (q k : ℕ) → 64 * k ≤ n → Puts o p (A.bools_at m start (64 * k) 0) o₁ q
-      → Remaining o p (A.bools_at m start n 0) o₁ q (A.bools_at m start (n - 64 * k) (64 * k))
-  bools-rest o₁ q k h puts =
-      let z : n ≡ 64 * k + (n - 64 * k) = omega arith in
-      let y : 0 + 64 * k ≡ 64 * k = omega arith in
-      remaining_turn o o o₁ p p q (A.bools_at m start n 0) (A.bools_at m start n 0) (A.bools_at m start (64 * k) 0) (A.bools_at m start (n - 64 * k) (64 * k))
-      (remaining_all o p (A.bools_at m start n 0) (A.bools_at m start n 0) refl) g.short
-      (ap (λ (i : ℕ). A.bools_at m start i 0) z ∙ bools_split m start (64 * k) (n - 64 * k) 0 ∙ ap (λ (i : ℕ). A.bools_at m start (64 * k) 0 ++ A.bools_at m start (n - 64 * k) i) y) puts
-
-pub bools_turn : (o₀ o o₁ : List ℕ) (p₀ p p₁ : ℕ) (whole m : List ℕ) (start n i w x : ℕ) → Remaining o₀ p₀ whole o p (A.bools_at m start (n - i) i) → Room o p → i < n
-    → w ≤ n - i → bits_of w x ≡ A.bools_at m start w i → Puts o p (bits_of w x) o₁ p₁ → Remaining o₀ p₀ whole o₁ p₁ (A.bools_at m start (n - (i + w)) (i + w))
-bools_turn o₀ o o₁ p₀ p p₁ whole m start n i w x inv g h l ex k =
-    let z : n - i ≡ w + (n - (i + w)) = omega arith in
-    remaining_turn o₀ o o₁ p₀ p p₁ whole (A.bools_at m start (n - i) i) (bits_of w x) (A.bools_at m start (n - (i + w)) (i + w)) inv g.short
-    (ap (λ (j : ℕ). A.bools_at m start j i) z ∙ bools_split m start w (n - (i + w)) i ∙ ap (λ (y : List ℕ). y ++ A.bools_at m start (n - (i + w)) (i + w)) (sym ex)) k
-
-pub bools_done : (o₀ o : List ℕ) (p₀ p : ℕ) (whole m : List ℕ) (start n i : ℕ) → Remaining o₀ p₀ whole o p (A.bools_at m start (n - i) i) → Room o p → n ≤ i → Puts o₀ p₀ whole o p
-unfolding A.bools_at
-bools_done o₀ o p₀ p whole m start n i inv g h =
-    let z : n - i ≡ 0 = omega arith in
-    remaining_done o₀ o p₀ p whole (A.bools_at m start (n - i) i) inv g (ap (λ (k : ℕ). A.bools_at m start k i) z)
-
-pub bools_all : (o o₁ o₂ : List ℕ) (p q r : ℕ) (m : List ℕ) (start n k i : ℕ) → Room o p → 64 * k ≤ n → Puts o p (A.bools_at m start (64 * k) 0) o₁ q
-    → Remaining o₁ q (A.bools_at m start (n - 64 * k) (64 * k)) o₂ r (A.bools_at m start (n - i) i) → Room o₂ r → n ≤ i → Puts o p (A.bools_at m start n 0) o₂ r
-bools_all o o₁ o₂ p q r m start n k i g h puts inv g₂ l =
-    (bools-rest o p m start n g o₁ q k h puts).on o₂ r (bools_done o₁ o₂ q r (A.bools_at m start (n - 64 * k) (64 * k)) m start n i inv g₂ l)
 
 -- ---- the bits of a byte
 -- n bits of a byte from bit k on
@@ -185,38 +121,73 @@ bools-behind m at n j b e =
     let z : 0 + n ≡ 8 * j + 0 = omega arith in
     bools_split m at n b 0 ∙ ap (λ (s : List ℕ). A.bools_at m at n 0 ++ s) (ap (λ (k : ℕ). A.bools_at m at b k) z ∙ bools-from m at j b 0)
 
-module _ (m : List ℕ) (at hi lo r : ℕ) where
-  bools-twice : (n j : ℕ) → n ≡ 8 * j → r ≡ hi * 2 ^ n + lo → lo < 2 ^ n → bits_of n hi ≡ A.bools_at m at n 0
-      → bits_of n lo ≡ A.bools_at m (at + j) n 0 → bits_of (n + n) r ≡ A.bools_at m at (n + n) 0
-  bools-twice n j e f s h l = ap (bits_of (n + n)) f ∙ bits_of_join n n hi lo s ∙ ap₂ ◌++◌ h l ∙ sym (bools-behind m at n j n e)
+-- ---- a word: a byte more behind those of i bytes
+module _ (i v y : ℕ) (few : i < 8) (small : v < 2 ^ (8 * i)) (byte : y < 2 ^ 8) where
+  joined : bit_or ((v * 2 ^ 8) % 2 ^ 64) y ≡ v * 2 ^ 8 + y
+  joined = ap (λ (k : ℕ). bit_or k y) (shl_exact (8 * i) 8 64 small (omega arith)) ∙ or_shifted v 8 y byte
 
-  pub bools-two : r ≡ hi * 2 ^ 8 + lo → lo < 2 ^ 8 → bits_of 8 hi ≡ A.bools_at m at 8 0 → bits_of 8 lo ≡ A.bools_at m (at + 1) 8 0
-      → bits_of 16 r ≡ A.bools_at m at 16 0
-  bools-two e s h l = bools-twice 8 1 refl e s h l
+  pub word_small : bit_or ((v * 2 ^ 8) % 2 ^ 64) y < 2 ^ (8 * (i + 1))
+  word_small =
+      let z : 8 * (i + 1) ≡ 8 * i + 8 = omega arith in
+      subst (λ (k : ℕ). bit_or ((v * 2 ^ 8) % 2 ^ 64) y < 2 ^ k) (sym z) (rw joined (omega (arith, pow-add 2 (8 * i) 8)))
 
-  pub bools_four : r ≡ hi * 2 ^ 16 + lo → lo < 2 ^ 16 → bits_of 16 hi ≡ A.bools_at m at 16 0 → bits_of 16 lo ≡ A.bools_at m (at + 2) 16 0
-      → bits_of 32 r ≡ A.bools_at m at 32 0
-  bools_four e s h l = bools-twice 16 2 refl e s h l
+  pub word_turn : (m : List ℕ) (at : ℕ) → bits_of (8 * i) v ≡ A.bools_at m at (8 * i) 0 → bits_of 8 y ≡ A.bools_at m (at + i) 8 0
+      → bits_of (8 * (i + 1)) (bit_or ((v * 2 ^ 8) % 2 ^ 64) y) ≡ A.bools_at m at (8 * (i + 1)) 0
+  word_turn m at inv ey =
+      let z : 8 * (i + 1) ≡ 8 * i + 8 = omega arith in
+      ap₂ (λ (j k : ℕ). bits_of j k) z joined ∙ bits_of_join (8 * i) 8 v y byte
+      ∙ ap₂ ◌++◌ inv ey ∙ sym (bools-behind m at (8 * i) i 8 refl) ∙ ap (λ (k : ℕ). A.bools_at m at k 0) (sym z)
 
-  pub bools_eight : r ≡ hi * 2 ^ 32 + lo → lo < 2 ^ 32 → bits_of 32 hi ≡ A.bools_at m at 32 0 → bits_of 32 lo ≡ A.bools_at m (at + 4) 32 0
-      → bits_of 64 r ≡ A.bools_at m at 64 0
-  bools_eight e s h l = bools-twice 32 4 refl e s h l
+pub word_start : (m : List ℕ) (at : ℕ) → bits_of 0 0 ≡ A.bools_at m at 0 0
+unfolding bits_of A.bools_at
+word_start m at = refl
 
--- ---- whole words
-pub words_start : (o : List ℕ) (p : ℕ) (m : List ℕ) (start k : ℕ) → Remaining o p (A.bools_at m start (64 * k) 0) o p (A.bools_at m start (64 * k) 0)
-words_start o p m start k = remaining_all o p (A.bools_at m start (64 * k) 0) (A.bools_at m start (64 * k) 0) refl
-
-pub words_turn : (o₀ o o₁ : List ℕ) (p₀ p : ℕ) (whole m : List ℕ) (n at x : ℕ) → Remaining o₀ p₀ whole o p (A.bools_at m at (64 * n) 0) → Room o p → p + 64 * n ≤ 8 * length o → 0 < n
-    → bits_of 64 x ≡ A.bools_at m at 64 0 → length o₁ ≡ length o → bits o₁ ≡ splice (bits o) p (bits_of 64 x) → Remaining o₀ p₀ whole o₁ (p + 64) (A.bools_at m (at + 8) (64 * (n - 1)) 0)
-words_turn o₀ o o₁ p₀ p whole m n at x inv g fit h ex l k =
-    let s = g.short in
-    let z : 64 * n ≡ 64 + 64 * (n - 1) = omega arith in
-    remaining_turn o₀ o o₁ p₀ p (p + 64) whole (A.bools_at m at (64 * n) 0) (bits_of 64 x) (A.bools_at m (at + 8) (64 * (n - 1)) 0) inv s
-    (ap (λ (i : ℕ). A.bools_at m at i 0) z ∙ bools-behind m at 64 8 (64 * (n - 1)) refl ∙ ap (λ (y : List ℕ). y ++ A.bools_at m (at + 8) (64 * (n - 1)) 0) (sym ex))
-    (bits_in o p 64 x g (omega arith) o₁ l k)
-
-pub words_done : (o₀ o : List ℕ) (p₀ p : ℕ) (whole m : List ℕ) (n at : ℕ) → Remaining o₀ p₀ whole o p (A.bools_at m at (64 * n) 0) → Room o p → n ≤ 0 → Puts o₀ p₀ whole o p
+-- ---- whole words that are put where there is room
+pub words_start : (o : List ℕ) (p : ℕ) (m : List ℕ) (at : ℕ) → Room o p → Puts o p (A.bools_at m at 0 0) o (p + 0)
 unfolding A.bools_at
-words_done o₀ o p₀ p whole m n at inv g h =
-    let z : 64 * n ≡ 0 = omega arith in
-    remaining_done o₀ o p₀ p whole (A.bools_at m at (64 * n) 0) inv g (ap (λ (k : ℕ). A.bools_at m at k 0) z)
+words_start o p m at g = subst (λ (q : ℕ). Puts o p [] o q) (sym (add-zero p)) (puts_none o p g.most)
+
+pub words_turn : (o o₁ o₂ : List ℕ) (p : ℕ) (m : List ℕ) (at n i x : ℕ) → Room o p → p + 64 * n ≤ 8 * length o → i < n
+    → Puts o p (A.bools_at m at (64 * i) 0) o₁ (p + 64 * i) → bits_of 64 x ≡ A.bools_at m (at + 8 * i) 64 0
+    → length o₂ ≡ length o₁ → bits o₂ ≡ splice (bits o₁) (p + 64 * i) (bits_of 64 x) → Puts o p (A.bools_at m at (64 * (i + 1)) 0) o₂ (p + 64 * (i + 1))
+words_turn o o₁ o₂ p m at n i x g fit h inv ex l k =
+    let short = g.short in
+    let same = inv.len in
+    let z : 64 * (i + 1) ≡ 64 * i + 64 = omega arith in
+    let y : p + 64 * (i + 1) ≡ p + 64 * i + 64 = omega arith in
+    let room : Room o₁ (p + 64 * i) = record { short = omega arith; most = inv.most } in
+    subst (λ (q : ℕ). Puts o p (A.bools_at m at (64 * (i + 1)) 0) o₂ q) (sym y)
+    (puts-same o o₂ p (p + 64 * i + 64) (A.bools_at m at (64 * i) 0 ++ bits_of 64 x) (A.bools_at m at (64 * (i + 1)) 0)
+    (ap (λ (s : List ℕ). A.bools_at m at (64 * i) 0 ++ s) ex ∙ sym (bools-behind m at (64 * i) (8 * i) 64 (let e : 64 * i ≡ 8 * (8 * i) = omega arith in e)) ∙ ap (λ (j : ℕ). A.bools_at m at j 0) (sym z))
+    (puts_then o o₁ o₂ p (p + 64 * i) (p + 64 * i + 64) (A.bools_at m at (64 * i) 0) (bits_of 64 x) short inv (bits_in o₁ (p + 64 * i) 64 x room (omega arith) o₂ l k)))
+
+-- ---- the list
+pub bools_counted : (o : List ℕ) (p : ℕ) (m : List ℕ) (start n q : ℕ) → Room o p → 8 * length o < p + n → q ≡ saturated (p + n) → Puts o p (A.bools_at m start n 0) o q
+bools_counted o p m start n q g l e = counted_puts o p n q (A.bools_at m start n 0) g (bools-length m start n 0) l e
+
+-- the first of the bools of a word
+front : (m : List ℕ) (at r k x y : ℕ) → r + k ≡ 64 → bits_of 64 x ≡ A.bools_at m at 64 0 → y ≡ x / 2 ^ k → bits_of r y ≡ A.bools_at m at r 0
+front m at r k x y e inv ey =
+    let z : bits_of r (x / 2 ^ k) ++ bits_of k x ≡ A.bools_at m at r 0 ++ A.bools_at m at k (0 + r) =
+    sym (bits_of_split r k x) ∙ ap (λ (j : ℕ). bits_of j x) e ∙ inv ∙ ap (λ (j : ℕ). A.bools_at m at j 0) (sym e) ∙ bools_split m at r k 0 in
+    ap (bits_of r) ey
+    ∙ sym (take_at (bits_of r (x / 2 ^ k)) (bits_of k x) r (bits_of-length r (x / 2 ^ k)))
+    ∙ ap (take r) z
+    ∙ take_at (A.bools_at m at r 0) (A.bools_at m at k (0 + r)) r (bools-length m at r 0)
+
+module _ (o o₁ : List ℕ) (p q : ℕ) (m : List ℕ) (start n k r : ℕ) (ek : k ≡ n / 64) (er : r ≡ n % 64) (a : Puts o p (A.bools_at m start (64 * k) 0) o₁ q) where
+  -- by the word alone
+  pub bools_whole : r ≡ 0 → Puts o p (A.bools_at m start n 0) o₁ q
+  bools_whole h = let z : 64 * k ≡ n = omega arith in subst (λ (j : ℕ). Puts o p (A.bools_at m start j 0) o₁ q) z a
+
+  -- and what is left over
+  pub bools_rest : (o₂ : List ℕ) (q₁ x y : ℕ) → Room o p → bits_of 64 x ≡ A.bools_at m (start + 8 * k) 64 0 → y ≡ x / 2 ^ (64 - r)
+      → Puts o₁ q (bits_of r y) o₂ q₁ → Puts o p (A.bools_at m start n 0) o₂ q₁
+  bools_rest o₂ q₁ x y g ex ey b =
+      let e : 64 * k ≡ 8 * (8 * k) = omega arith in
+      let f : r + (64 - r) ≡ 64 = omega arith in
+      let z : n ≡ 64 * k + r = omega arith in
+      puts-same o o₂ p q₁ (A.bools_at m start (64 * k) 0 ++ bits_of r y) (A.bools_at m start n 0)
+      (ap (λ (s : List ℕ). A.bools_at m start (64 * k) 0 ++ s) (front m (start + 8 * k) r (64 - r) x y f ex ey)
+      ∙ sym (bools-behind m start (64 * k) (8 * k) r e) ∙ ap (λ (j : ℕ). A.bools_at m start j 0) (sym z))
+      (puts_then o o₁ o₂ p q q₁ (A.bools_at m start (64 * k) 0) (bits_of r y) g.short a b)

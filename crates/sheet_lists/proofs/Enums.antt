@@ -1,28 +1,44 @@
 -- Enums of a list: up to five are gathered into a number, and it is written at once.
+use Rattle.std.proofs.Common.{min, cond, add-one}
+use Rattle.std.specs.Int.{from_bool}
+use Rattle.std.specs.List.{count_by}
+use Rattle.std.proofs.lemmas.List.{get_or_past}
+use Rattle.std.proofs.lemmas.List.Sums.{sum_by-cons}
 use mathlib.Core.Path.{◌≡◌, refl, sym, ap, ap₂, ◌∙◌, subst}
+use mathlib.Core.Bool.{Bool, true, false, not}
 use mathlib.Core.List.{List, ◌++◌, append_assoc, append-nil}
 use Prim.Native.Nat.{ℕ, zero, suc, ◌+◌, ◌-◌, ◌*◌, ◌%◌, ◌^◌, ◌<◌, ◌≤◌}
 use native.Mathlib.Omega.{arith}
 use native.Mathlib.Nat.{zero-add, mod-lt}
-use lib.ListN.{get_or}
+use lib.ListN.{length, get_or, take, drop, length-append, drop_of_length-le}
+use lib.Seq.{drop-cons, take-nil}
+use lib.Dec.{eqb, ltb, leb}
 use lib.Pow.{pow_pos, shl_lt, shl_exact, pow_mono}
 use lib.Bits.{bit_or, or_lt}
-use borrow.Author.Tests.{eq-eqb, ne_eqb, lt-ltb, le-ltb}
+use borrow.Author.Tests.{leb-true, leb-false, eq-eqb, ne_eqb, lt-ltb, le-ltb}
+use Rattle.coding.specs.Lists.{pick}
 use Rattle.coding.specs.Bits.{bits_of}
-use Rattle.laws.specs.Bits.{bits_of_join}
+use Rattle.laws.specs.Bits.{bits_of_join, bits_of-length}
 use Rattle.bits.proofs.Masks.{or_more}
 use Rattle.bitio.specs.Puts.{Room, Puts}
+use Rattle.bitio.specs.PutsLaws.{part, puts_none, puts_then, puts-same}
 use Rattle.sheet_values.specs.Marks as K
 use Rattle.sheet_lists.specs.Elements as A
-use Rattle.sheet_values.proofs.Cases.{marked-bits}
-use Rattle.sheet_values.proofs.Remaining.{Remaining, remaining_turn}
+use Rattle.sheet_values.proofs.Cases.{marked-bits, marked-length}
 
 -- ---- one enum
-pub width_none : (x : ℕ) → x ≡ 255 → 2 + 8 * 0 ≡ A.enum_width x
+enum-width : (x : ℕ) → 2 + 8 * from_bool (not (eqb x 255)) ≡ A.enum_width x
 unfolding A.enum_width
-width_none x h = simp (eq-eqb _ _ h)
+enum-width x = by (eqb x 255)
+  where
+    by : (b : Bool) → 2 + 8 * from_bool (not b) ≡ pick b 2 10
+    by true = refl
+    by false = refl
 
-pub width-value : (x : ℕ) → (x ≡ 255 → ⊥) → 2 + 8 * 1 ≡ A.enum_width x
+pub enum_value_is : (x r : ℕ) → r ≡ from_bool (not (eqb x 255)) → 2 + 8 * r ≡ A.enum_width x
+enum_value_is x r e = ap (λ (k : ℕ). 2 + 8 * k) e ∙ enum-width x
+
+width-value : (x : ℕ) → (x ≡ 255 → ⊥) → 10 ≡ A.enum_width x
 unfolding A.enum_width
 width-value x h = simp (ne_eqb _ _ h)
 
@@ -89,13 +105,73 @@ module _ (j v w b y x : ℕ) (few : w + b ≤ 50) (small : v < 2 ^ w) (eb : b �
       ∙ ap₂ ◌++◌ inv (ap (λ (i : ℕ). bits_of i y) eb ∙ ey ∙ ap (K.enum_at k) ex ∙ sym (append-nil (K.enum_at k (get_or m (at + j) 0))))
       ∙ sym (enums_split m k j 1 at)
 
-pub enums_gathered : (m : List ℕ) (k at j n v w : ℕ) → bits_of w v ≡ A.enums_at m k j at → j ≤ n → n ≤ j → bits_of w v ≡ A.enums_at m k n at
-enums_gathered m k at j n v w inv h l = let z : j ≡ n = omega arith in inv ∙ ap (λ (i : ℕ). A.enums_at m k i at) z
+-- ---- how many bits they take
+enum-size : (k x : ℕ) → length (K.enum_at k x) ≡ A.enum_width x
+unfolding K.enum_at A.enum_width
+enum-size k x = by (eqb x 255) (ltb x k)
+  where
+    by : (none known : Bool) → length (pick none (bits_of 2 0) (pick known (K.marked 1 8 x) (K.marked 2 8 x))) ≡ pick none 2 10
+    by true known = bits_of-length 2 0
+    by false true = marked-length 1 8 x
+    by false false = marked-length 2 8 x
+
+enums_one : (m : List ℕ) (k at : ℕ) → A.enums_at m k 1 at ≡ K.enum_at k (get_or m at 0)
+unfolding A.enums_at
+enums_one m k at = append-nil (K.enum_at k (get_or m at 0))
+
+-- the ones that are no value
+abbrev absent : List ℕ → ℕ
+absent xs = count_by (λ (x : ℕ). eqb x 255) xs
+
+one_width : (x : ℕ) → A.enum_width x + 8 * cond (eqb x 255) 1 0 ≡ 10
+unfolding A.enum_width
+one_width x = by (eqb x 255)
+  where
+    by : (b : Bool) → pick b 2 10 + 8 * cond b 1 0 ≡ 10
+    by true = refl
+    by false = refl
+
+enums-absent : (m : List ℕ) (k n at : ℕ) → length (A.enums_at m k n at) + 8 * absent (take n (drop at m)) ≡ 10 * n
+unfolding A.enums_at
+enums-absent m k zero at = refl
+enums-absent m k (suc n) at = by (leb (length m) at) refl (enums-absent m k n (at + 1))
+  where
+    x : ℕ
+    x = get_or m at 0
+
+    by : (t : Bool) → leb (length m) at ≡ t → length (A.enums_at m k n (at + 1)) + 8 * absent (take n (drop (at + 1) m)) ≡ 10 * n
+        → length (K.enum_at k x ++ A.enums_at m k n (at + 1)) + 8 * absent (take (suc n) (drop at m)) ≡ 10 * suc n
+    by true e ih =
+        let h = leb-true (length m) at e in
+        let size = length-append (K.enum_at k x) (A.enums_at m k n (at + 1)) in
+        let none : absent (take (suc n) (drop at m)) ≡ 0 = ap (λ (l : List ℕ). absent (take (suc n) l)) (drop_of_length-le m h) in
+        let after : absent (take n (drop (at + 1) m)) ≡ 0 =
+        ap (λ (l : List ℕ). absent (take n l)) (drop_of_length-le m {i = at + 1} (omega arith)) ∙ ap absent (take-nil n) in
+        let wide : A.enum_width x ≡ 10 = ap A.enum_width (get_or_past m at 0 h) ∙ sym (width-value 0 (λ f. absurd (omega arith))) in
+        omega (arith, ih, size, none, after, wide, enum-size k x)
+    by false e ih =
+        let h = leb-false (length m) at e in
+        let size = length-append (K.enum_at k x) (A.enums_at m k n (at + 1)) in
+        let first = ap (λ (l : List ℕ). absent (take (suc n) l)) (drop-cons m at 0 h)
+        ∙ sum_by-cons (λ (y : ℕ). cond (eqb y 255) 1 0) x (take n (drop (suc at) m)) in
+        let same = ap (λ (j : ℕ). absent (take n (drop j m))) (add-one at) in
+        omega (arith, ih, size, first, same, one_width x, enum-size k x)
+
+-- what of n bytes from `at` stands in m
+pub enums-size : (m : List ℕ) (k n at e s r : ℕ) → e ≡ min (length m) (at + n) → s ≡ min at e → r ≡ absent (take (e - s) (drop s m))
+    → length (A.enums_at m k n at) ≡ 10 * n - 8 * r
+enums-size m k n at e s r ee es er =
+    let z : take (e - s) (drop s m) ≡ take n (drop at m) = part m at n s (e - s) (omega arith) (omega arith) (λ h. omega arith) (omega arith) (omega arith) (λ h. omega arith) in
+    omega (arith, enums-absent m k n at, er ∙ ap absent z)
 
 -- ---- the list
-pub enums_turn : (o₀ o o₁ : List ℕ) (p₀ p p₁ : ℕ) (whole m : List ℕ) (k n at j w v : ℕ) → Remaining o₀ p₀ whole o p (A.enums_at m k n at) → Room o p → j ≤ n
-    → bits_of w v ≡ A.enums_at m k j at → Puts o p (bits_of w v) o₁ p₁ → Remaining o₀ p₀ whole o₁ p₁ (A.enums_at m k (n - j) (at + j))
-enums_turn o₀ o o₁ p₀ p p₁ whole m k n at j w v inv g h ev puts =
-    let z : n ≡ j + (n - j) = omega arith in
-    remaining_turn o₀ o o₁ p₀ p p₁ whole (A.enums_at m k n at) (bits_of w v) (A.enums_at m k (n - j) (at + j)) inv g.short
-    (ap (λ (i : ℕ). A.enums_at m k i at) z ∙ enums_split m k j (n - j) at ∙ ap (λ (s : List ℕ). s ++ A.enums_at m k (n - j) (at + j)) (sym ev)) puts
+pub enums_begin : (o : List ℕ) (p : ℕ) (m : List ℕ) (k at : ℕ) → Room o p → Puts o p (A.enums_at m k 0 at) o p
+unfolding A.enums_at
+enums_begin o p m k at g = puts_none o p g.most
+
+pub enums_turn : (o o₁ o₂ : List ℕ) (p q r : ℕ) (m : List ℕ) (k i j n at w v : ℕ) → Room o p → i + j ≡ n
+    → Puts o p (A.enums_at m k i at) o₁ q → bits_of w v ≡ A.enums_at m k j (at + i) → Puts o₁ q (bits_of w v) o₂ r → Puts o p (A.enums_at m k n at) o₂ r
+enums_turn o o₁ o₂ p q r m k i j n at w v g e inv ev puts =
+    puts-same o o₂ p r (A.enums_at m k i at ++ bits_of w v) (A.enums_at m k n at)
+    (ap (λ (s : List ℕ). A.enums_at m k i at ++ s) ev ∙ sym (enums_split m k i j at) ∙ ap (λ (a : ℕ). A.enums_at m k a at) e)
+    (puts_then o o₁ o₂ p q r (A.enums_at m k i at) (bits_of w v) g.short inv puts)

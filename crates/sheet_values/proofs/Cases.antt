@@ -43,7 +43,7 @@ marked-two o o₁ o₂ p q r mark w x v g l e a b =
     (puts_then o o₁ o₂ p q r (bits_of (2 + (w - 32)) v) (bits_of 32 x) g.short a b)
 
 -- ---- no room: bits of a known length are counted
-counted_puts : (o : List ℕ) (p n q : ℕ) (xs : List ℕ) → Room o p → length xs ≡ n → 8 * length o < p + n → q ≡ saturated (p + n) → Puts o p xs o q
+pub counted_puts : (o : List ℕ) (p n q : ℕ) (xs : List ℕ) → Room o p → length xs ≡ n → 8 * length o < p + n → q ≡ saturated (p + n) → Puts o p xs o q
 counted_puts o p n q xs g e l eq = subst (λ (k : ℕ). Puts o p xs o k) (sym eq) (ends (leb (p + n) 134217720) refl)
   where
     ends : (b : Bool) → leb (p + n) 134217720 ≡ b → Puts o p xs o (saturated (p + n))

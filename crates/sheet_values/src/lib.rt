@@ -1,5 +1,7 @@
 // One value of a sheet: a mark and what follows it, or a struct's number without one. Counted always, and stored where there
 // is room.
+// Kept: `out` and `pos` as two parameters. A struct of both is as fast, but no plainer here: bitio's writers and the walk of
+// sheet_walk take them as two, so that it would be made and taken apart at each call.
 #![tactic(auto)]
 
 ghost use Rattle.std.specs.Prelude.{◌≡◌, ◌+◌, ◌*◌, ◌<◌, ◌≤◌, ◌^◌, length};
@@ -14,6 +16,7 @@ pub const MOST: usize = 134217720;
 pub const OVER: usize = 134217721;
 
 // A count as a number.
+// Kept: no plainer form, since a usize has no `u64::from`, in Rust neither.
 pub fn number64(x: usize) -> u64
     ensures { result ≡ x }
 {
@@ -21,18 +24,15 @@ pub fn number64(x: usize) -> u64
 }
 
 // Where k bits end for which there is no room.
-fn counted(pos: usize, k: usize) -> usize
-    requires { (pos ≤ 134217721) × (k ≤ 66) }
+pub fn counted(pos: usize, k: usize) -> usize
+    requires { pos + k < 2 ^ 64 }
     ensures { result ≡ saturated (pos + k) }
 {
-    let end = pos + k;
-    if MOST < end {
-        return OVER;
-    }
-    end
+    OVER.min(pos + k)
 }
 
 // A mark (0 absent, 1 present, 2 unknown) and the w low bits of x.
+// Kept: the mark is a number and no enum, since this promises `Marks.marked` for every number of two bits.
 pub fn put_marked(out: &mut [u8], pos: usize, mark: u64, w: usize, x: u64) -> usize
     requires room { Room out.old pos }
     requires w_bound { (w ≤ 64) × (mark < 4) }
@@ -57,9 +57,9 @@ pub fn put_enum(out: &mut [u8], pos: usize, n: u8, x: u8) -> usize
         return bitio::write(out, pos, 2, 0);
     }
     if x < n {
-        return put_marked(out, pos, 1, 8, wire::wide(x));
+        return put_marked(out, pos, 1, 8, u64::from(x));
     }
-    put_marked(out, pos, 2, 8, wire::wide(x))
+    put_marked(out, pos, 2, 8, u64::from(x))
 }
 
 // A number of w bytes.
@@ -80,13 +80,10 @@ pub fn put_float(out: &mut [u8], pos: usize, none: bool, w: u8, x: u64) -> usize
     requires w_bound { w ≤ 8 }
     ensures { Puts out.old pos (Marks.float_at none w x) out.new result }
 {
-    if none {
-        if wire::is_nan(w, x) {
-            return bitio::write(out, pos, 2, 0);
-        }
-        return put_marked(out, pos, 1, 8 * wire::index(w), x);
+    if none && wire::is_nan(w, x) {
+        return bitio::write(out, pos, 2, 0);
     }
-    put_marked(out, pos, 1, 8 * wire::index(w), x)
+    put_marked(out, pos, 1, 8 * usize::from(w), x)
 }
 
 // A text or bytes with its mark: the n bytes from `at`.
@@ -120,11 +117,9 @@ pub fn put_plain(
         return counted(pos, 2 + 8 * w);
     }
     let at = start + end;
-    if w < 8 {
-        if at + 8 <= m.len() {
-            let x = wire::u64_in(m, at);
-            return bitio::write(out, pos, 2 + 8 * w, bits::append(1, 8 * w, x));
-        }
+    if w < 8 && at + 8 <= m.len() {
+        let x = wire::u64_in(m, at);
+        return bitio::write(out, pos, 2 + 8 * w, bits::append(1, 8 * w, x));
     }
     put_marked(out, pos, 1, 8 * w, wire::number(m, at, w))
 }

@@ -1,5 +1,6 @@
 -- Members that are written by their records alone: by the record, their bits, and the cursor behind them.
 use mathlib.Core.Path.{◌≡◌, refl, sym, ap, ap₂, ◌∙◌, subst}
+use Rattle.std.specs.Prelude.{Option, Some, None, MatchOption}
 use mathlib.Core.Bool.{Bool, true, false}
 use mathlib.Core.List.{List}
 use Prim.Native.Nat.{ℕ, ◌+◌, ◌-◌, ◌*◌, ◌<◌, ◌≤◌}
@@ -31,7 +32,9 @@ use Rattle.message_layout.specs.Bounds.{Laid}
 use Rattle.schema.specs.Records.{record-member}
 use Rattle.sheet_values.specs.Marks as K
 use Rattle.sheet_walk.specs.MessageBits as A
-use Rattle.sheet_walk.specs.Stepping.{Coded, behind, behind_other}
+use Rattle.sheet_walk.specs.Stepping.{Coded, Small, behind}
+use Rattle.sheet_walk.specs.declared.Code.{Code}
+use Rattle.sheet_walk.specs.declared.Code.TheVariants.{Number, Boolean, Float, Enumerated}
 
 -- ---- the record
 -- a number or a float of w bytes; an integer alone
@@ -91,24 +94,6 @@ member-at b at k ek l o v eo f =
     ∙ ap (λ (t : Bool). pick t (OfFlat (P.flat_of k (P.argument_at b at))) (pick (eqb k 17) (OfUnion (P.argument_at b at)) (OfObject (P.object_of k (P.argument_at b at))))) (lt-ltb k 13 g) in
     ap₂ (λ (x : Kind) (y : Bool). record { kind = x; optional = y; inplace = P.inplace_at b at }) q (sym eo ∙ f)
 
-module _ (k : ℕ) (h : k < 11) (v : ℕ) (ev : v ≡ P.width_of k) (w : ℕ) (ew : w ≡ v) where
-  pub bytes_some : 0 < w
-  bytes_some = let x = (width_range k h).0 in omega arith
-
-  pub bytes_eight : w ≤ 8
-  bytes_eight = let x = (width_range k h).1 in omega arith
-
-pub bytes_is : (k v w : ℕ) → v ≡ P.width_of k → w ≡ v → w ≡ P.width_of k
-bytes_is k v w ev ew = ew ∙ ev
-
--- ---- by the code
-module _ (q : ℕ) (A : Type 0) (x y z : A) where
-  code-number : q < 16 → pick (ltb q 16) x (pick (ltb q 32) y z) ≡ x
-  code-number h = simp (lt-ltb _ _ h)
-
-  code-optional : 16 ≤ q → q < 32 → pick (ltb q 16) x (pick (ltb q 32) y z) ≡ y
-  code-optional h l = simp (le-ltb _ _ h, lt-ltb _ _ l)
-
 -- ---- the bits of a member's step
 module _ (o d : ℕ) (S : Schema) (m : List ℕ) (k : Kind) where
   refused-bits : A.step_at o d S m k (T.struct_tested S m (St.Refused 8)) ≡ bits_of 2 0
@@ -161,16 +146,10 @@ module _ (place : Bool) (w : ℕ) where
   number-bits o d S m start n c some (F.Enumerated k) e = absurd e
   number-bits o d S m start n c some (F.Struct i) e = absurd e
 
-  number_coded : (f : Flat) → NumberOf f w → 0 < w → w ≤ 8 → Coded (flat_member f false place) w
-  unfolding behind A.coded_at A.coded_width A.coded_end
-  number_coded f e some few =
-      let h : w < 16 = omega arith in
-      let l : w < 32 = omega arith in
-      record {
-        next_is = λ o S c.
-            number_next o S c f e ∙ sym (code-number w Cursor (L.after_bytes w c) (L.after_bytes (w - 16) (L.after_bit c)) (behind_other w c) h);
-        bits_are = λ o d S m start n c. number-bits o d S m start n c some f e ∙ simp (lt-ltb _ _ h, lt-ltb _ _ l);
-      }
+  number_coded : (f : Flat) → NumberOf f w → 0 < w → Coded (flat_member f false place) (Number false w)
+  unfolding behind A.coded_at A.number_end
+  number_coded f e some =
+      record { next_is = λ o S c. number_next o S c f e; bits_are = λ o d S m start n c. number-bits o d S m start n c some f e }
 
   -- ---- an optional integer
   optional_next : (o : ℕ) (S : Schema) (c : Cursor) (f : Flat) → IntegerOf f w → L.after_member o S (flat_member f true place) c ≡ L.after_bytes w (L.after_bit c)
@@ -207,20 +186,10 @@ module _ (place : Bool) (w : ℕ) where
   optional-bits o d S m start n c some (F.Enumerated k) e = absurd e
   optional-bits o d S m start n c some (F.Struct i) e = absurd e
 
-  optional_coded : (f : Flat) → IntegerOf f w → 0 < w → w ≤ 8 → Coded (flat_member f true place) (16 + w)
-  unfolding behind A.coded_at A.coded_width A.coded_end
-  optional_coded f e some few =
-      let h : 16 ≤ 16 + w = omega arith in
-      let l : 16 + w < 32 = omega arith in
-      let z : w ≡ 16 + w - 16 = omega arith in
-      record {
-        next_is = λ o S c.
-            optional_next o S c f e ∙ ap (λ (i : ℕ). L.after_bytes i (L.after_bit c)) z
-            ∙ sym (code-optional (16 + w) Cursor (L.after_bytes (16 + w) c) (L.after_bytes (16 + w - 16) (L.after_bit c)) (behind_other (16 + w) c) h l);
-        bits_are = λ o d S m start n c.
-            optional-bits o d S m start n c some f e ∙ ap (λ (i : ℕ). K.plain_at m i start n (A.optional_end m start n c)) z
-            ∙ simp (le-ltb _ _ h, lt-ltb _ _ l);
-      }
+  optional_coded : (f : Flat) → IntegerOf f w → 0 < w → Coded (flat_member f true place) (Number true w)
+  unfolding behind A.coded_at A.number_end
+  optional_coded f e some =
+      record { next_is = λ o S c. optional_next o S c f e; bits_are = λ o d S m start n c. optional-bits o d S m start n c some f e }
 
   -- ---- an optional float, which has no flag
   float_next : (o : ℕ) (S : Schema) (c : Cursor) → L.after_member o S (flat_member (F.Float w) true place) c ≡ L.after_bytes w c
@@ -241,21 +210,9 @@ module _ (place : Bool) (w : ℕ) where
       by x false true false et eu = refl
       by x false false v et eu = refl
 
-  float_coded : 0 < w → w ≤ 8 → Coded (flat_member (F.Float w) true place) (48 + w)
-  unfolding behind behind_other A.coded_at A.other_at
-  float_coded some few =
-      let g : 16 ≤ 48 + w = omega arith in
-      let h : 32 ≤ 48 + w = omega arith in
-      let i : 32 < 48 + w = omega arith in
-      let l : 48 + w < 64 = omega arith in
-      let z : w ≡ 48 + w - 48 = omega arith in
-      record {
-        next_is = λ o S c.
-            float_next o S c ∙ ap (λ (i : ℕ). L.after_bytes i c) z ∙ simp (le-ltb _ _ g, le-ltb _ _ h, lt-leb _ _ i, lt-ltb _ _ l);
-        bits_are = λ o d S m start n c.
-            float-bits o d S m start n c some ∙ ap (λ (i : ℕ). A.optional_float_at m i start n c) z
-            ∙ simp (le-ltb _ _ h, lt-leb _ _ i, lt-ltb _ _ l);
-      }
+  float_coded : 0 < w → Coded (flat_member (F.Float w) true place) (Float w)
+  unfolding behind A.coded_at
+  float_coded some = record { next_is = float_next; bits_are = λ o d S m start n c. float-bits o d S m start n c some }
 
 -- ---- a bool that is not optional
 bool-bits : (place : Bool) (o d : ℕ) (S : Schema) (m : List ℕ) (start n : ℕ) (c : Cursor)
@@ -273,9 +230,9 @@ bool_next : (place : Bool) (o : ℕ) (S : Schema) (c : Cursor) → L.after_membe
 unfolding L.after_member L.after_value L.after_flag L.has_flag L.is_bool L.flat_is_bool
 bool_next place o S c = refl
 
-bool_coded : (place : Bool) → Coded (flat_member F.Boolean false place) 32
-unfolding behind behind_other A.coded_at A.other_at
-bool_coded place = record { next_is = λ o S c. bool_next place o S c; bits_are = λ o d S m start n c. bool-bits place o d S m start n c }
+bool_coded : (place : Bool) → Coded (flat_member F.Boolean false place) Boolean
+unfolding behind A.coded_at
+bool_coded place = record { next_is = bool_next place; bits_are = bool-bits place }
 
 -- ---- an enum
 enum_next : (place opt : Bool) (k o : ℕ) (S : Schema) (c : Cursor) → L.after_member o S (flat_member (F.Enumerated k) opt place) c ≡ L.after_bytes 1 c
@@ -304,68 +261,67 @@ unfolding T.member_step T.struct_tested T.placed_step L.placement_of L.bit_slot 
 enum-bits place true k o d S m start n c = enum_step_lem k o d S m n c.end (get_or m (start + c.end) 0)
 enum-bits place false k o d S m start n c = enum_step_lem k o d S m n c.end (get_or m (start + c.end) 0)
 
-enum_coded : (place opt : Bool) (k : ℕ) → Coded (flat_member (F.Enumerated k) opt place) (64 + k)
-unfolding behind behind_other A.coded_at A.other_at
-enum_coded place opt k =
-    let g : 16 ≤ 64 + k = omega arith in
-    let h : 32 ≤ 64 + k = omega arith in
-    let i : 32 < 64 + k = omega arith in
-    let l : 64 ≤ 64 + k = omega arith in
-    let z : k ≡ 64 + k - 64 = omega arith in
-    record {
-      next_is = λ o S c. enum_next place opt k o S c ∙ simp (le-ltb _ _ g, le-ltb _ _ h, lt-leb _ _ i, le-ltb _ _ l);
-      bits_are = λ o d S m start n c.
-          enum-bits place opt k o d S m start n c ∙ ap (λ (i : ℕ). A.enumerated_at m i start n c) z
-          ∙ simp (le-ltb _ _ h, lt-leb _ _ i, le-ltb _ _ l);
-    }
+enum_coded : (place opt : Bool) (k : ℕ) → Coded (flat_member (F.Enumerated k) opt place) (Enumerated k)
+unfolding behind A.coded_at
+enum_coded place opt k = record { next_is = enum_next place opt k; bits_are = enum-bits place opt k }
 
 enum-flat : (k a : ℕ) → k ≡ 11 → P.flat_of k a ≡ F.Enumerated a
 unfolding P.flat_of
 enum-flat k a h = ap (λ (i : ℕ). P.flat_of i a) h
 
-pub enum-at : (b : List ℕ) (at k : ℕ) → k ≡ P.kind_at b at → k ≡ 11 → (a w : ℕ) → a ≡ P.argument_at b at → w ≡ a → Coded (P.member_at b at) (64 + w)
-enum-at b at k ek h a w ea ew =
+pub enum-at : (b : List ℕ) (at k : ℕ) → k ≡ P.kind_at b at → k ≡ 11 → (a : ℕ) → a ≡ P.argument_at b at → Coded (P.member_at b at) (Enumerated a)
+enum-at b at k ek h a ea =
     let l : k ≤ 11 = omega arith in
-    subst (λ (r : Member). Coded r (64 + w))
+    subst (λ (r : Member). Coded r (Enumerated a))
     (sym (member-at b at k ek l (P.optional_at b at) (P.optional_at b at) refl refl
-    ∙ ap (λ (x : Flat). flat_member x (P.optional_at b at) (P.inplace_at b at)) (enum-flat k (P.argument_at b at) h ∙ ap F.Enumerated (sym (ew ∙ ea)))))
-    (enum_coded (P.inplace_at b at) (P.optional_at b at) w)
+    ∙ ap (λ (x : Flat). flat_member x (P.optional_at b at) (P.inplace_at b at)) (enum-flat k (P.argument_at b at) h ∙ ap F.Enumerated (sym ea))))
+    (enum_coded (P.inplace_at b at) (P.optional_at b at) a)
 
 -- ---- the code of a record
+-- it is that of the member, and a number that it says is small
+abbrev CodeOf : Member → Option Code → Type 0
+CodeOf r q = MatchOption q (Unit {0}) (λ (i : Code). Coded r i × Small i)
+
 module _ (b : List ℕ) (at k : ℕ) (ek : k ≡ P.kind_at b at) (l : k < 11) (o : Bool) (eo : o ≡ P.optional_at b at) where
-  pub number_at : o ≡ false → (k ≡ 0 → ⊥) → (w : ℕ) → w ≡ P.width_of k → 0 < w → w ≤ 8 → Coded (P.member_at b at) w
-  number_at f h w ew some few =
-      subst (λ (r : Member). Coded r w) (sym (member-at b at k ek (let g : k ≤ 11 = omega arith in g) o false eo f))
-      (number_coded (P.inplace_at b at) w (P.flat_of k (P.argument_at b at)) (subst (NumberOf (P.flat_of k (P.argument_at b at))) (sym ew) (number-flat k (P.argument_at b at) h l)) some few)
+  low : k ≤ 11
+  low = omega arith
 
-  optional_by : o ≡ true → (t u : Bool) → eqb k 0 ≡ t → ltb k 9 ≡ u → 0 < pick t 0 (pick u (16 + P.width_of k) (48 + P.width_of k))
-      → Coded (P.member_at b at) (pick t 0 (pick u (16 + P.width_of k) (48 + P.width_of k)))
-  optional_by f true u et eu some = absurd (let z : ⊥ = omega arith in z)
-  optional_by f false true et eu some =
+  pub number_at : o ≡ false → (k ≡ 0 → ⊥) → (w : ℕ) → w ≡ P.width_of k → Coded (P.member_at b at) (Number false w) × (w ≤ 8)
+  number_at f h w ew =
+      let z = width_range k l in
+      let some : 0 < w = omega arith in (
+        subst (λ (r : Member). Coded r (Number false w)) (sym (member-at b at k ek low o false eo f))
+            (number_coded (P.inplace_at b at) w (P.flat_of k (P.argument_at b at)) (subst (NumberOf (P.flat_of k (P.argument_at b at))) (sym ew) (number-flat k (P.argument_at b at) h l)) some),
+        omega arith,
+      )
+
+  optional_by : o ≡ true → (t u : Bool) → eqb k 0 ≡ t → ltb k 9 ≡ u
+      → CodeOf (P.member_at b at) (pick t None (pick u (Some (Number true (P.width_of k))) (Some (Float (P.width_of k)))))
+  optional_by f true u et eu = tt
+  optional_by f false true et eu =
       let h = ltb-true k 9 eu in
-      let i : k ≤ 8 = omega arith in
-      let g : k < 11 = omega arith in
-      let x : k ≤ 11 = omega arith in
-      subst (λ (r : Member). Coded r (16 + P.width_of k)) (sym (member-at b at k ek x o true eo f))
-      (optional_coded (P.inplace_at b at) (P.width_of k) (P.flat_of k (P.argument_at b at)) (integer-flat k (P.argument_at b at) (eqb-false k 0 et) i)
-      (width_range k g).0 (width_range k g).1)
-  optional_by f false false et eu some =
-      let g : k < 11 = omega arith in
-      let x : k ≤ 11 = omega arith in
-      subst (λ (r : Member). Coded r (48 + P.width_of k))
-      (sym (member-at b at k ek x o true eo f
-      ∙ ap (λ (y : Flat). flat_member y true (P.inplace_at b at)) (float-flat k (P.argument_at b at) (ltb-false k 9 eu) l)))
-      (float_coded (P.inplace_at b at) (P.width_of k) (width_range k g).0 (width_range k g).1)
+      let i : k ≤ 8 = omega arith in (
+        subst (λ (r : Member). Coded r (Number true (P.width_of k))) (sym (member-at b at k ek low o true eo f))
+            (optional_coded (P.inplace_at b at) (P.width_of k) (P.flat_of k (P.argument_at b at)) (integer-flat k (P.argument_at b at) (eqb-false k 0 et) i)
+            (width_range k l).0),
+        (width_range k l).1,
+      )
+  optional_by f false false et eu = (
+    subst (λ (r : Member). Coded r (Float (P.width_of k)))
+        (sym (member-at b at k ek low o true eo f
+        ∙ ap (λ (y : Flat). flat_member y true (P.inplace_at b at)) (float-flat k (P.argument_at b at) (ltb-false k 9 eu) l)))
+        (float_coded (P.inplace_at b at) (P.width_of k) (width_range k l).0),
+    (width_range k l).1,
+  )
 
-  pub optional-at : o ≡ true → (q : ℕ) → q ≡ A.optional_code k → 0 < q → Coded (P.member_at b at) q
+  pub optional-at : o ≡ true → (q : Option Code) → q ≡ A.optional_code k → CodeOf (P.member_at b at) q
   unfolding A.optional_code
-  optional-at f q e some =
-      subst (Coded (P.member_at b at)) (sym e) (optional_by f (eqb k 0) (ltb k 9) refl refl (subst (λ (i : ℕ). 0 < i) e some))
+  optional-at f q e = subst (CodeOf (P.member_at b at)) (sym e) (optional_by f (eqb k 0) (ltb k 9) refl refl)
 
-  pub bool_at : o ≡ false → k ≡ 0 → Coded (P.member_at b at) 32
+  pub bool_at : o ≡ false → k ≡ 0 → Coded (P.member_at b at) Boolean
   bool_at f h =
-      subst (λ (r : Member). Coded r 32)
-      (sym (member-at b at k ek (let g : k ≤ 11 = omega arith in g) o false eo f ∙ ap (λ (x : Flat). flat_member x false (P.inplace_at b at)) (bool-flat k (P.argument_at b at) h)))
+      subst (λ (r : Member). Coded r Boolean)
+      (sym (member-at b at k ek low o false eo f ∙ ap (λ (x : Flat). flat_member x false (P.inplace_at b at)) (bool-flat k (P.argument_at b at) h)))
       (bool_coded (P.inplace_at b at))
 
 -- ---- the cursor behind it
@@ -384,19 +340,17 @@ bytes_laid e f w c p h = let x = p.end in let y = p.byte in record { end = omega
 laid_more : (e f : ℕ) (c : Cursor) → Laid e c → e ≤ f → Laid f c
 laid_more e f c p h = let x = p.end in record { end = omega arith; byte = p.byte; bit = p.bit }
 
-pub coded_laid : (j q : ℕ) (c next : Cursor) → Laid (4097 * j) c → next ≡ behind q c → Laid (4097 * (j + 1)) next
-unfolding behind behind_other
-coded_laid j q c next p e = subst (Laid (4097 * (j + 1))) (sym e) (by (ltb q 16) (ltb q 32) (leb q 32) (ltb q 64) refl refl refl)
+-- `j` members are laid out
+pub coded_laid : (j : ℕ) (q : Code) (c next : Cursor) → Small q → Laid (4097 * j) c → next ≡ behind q c → Laid (4097 * (j + 1)) next
+unfolding behind
+coded_laid j q c next s p e = subst (Laid (4097 * (j + 1))) (sym e) (by q s)
   where
-    by : (t u v w : Bool) → ltb q 16 ≡ t → ltb q 32 ≡ u → ltb q 64 ≡ w
-        → Laid (4097 * (j + 1))
-        (pick t (L.after_bytes q c) (pick u (L.after_bytes (q - 16) (L.after_bit c)) (pick v (L.after_bit c) (pick w (L.after_bytes (q - 48) c) (L.after_bytes 1 c)))))
-    by true u v w et eu ew = let h = ltb-true q 16 et in bytes_laid (4097 * j) (4097 * (j + 1)) q c p (omega arith)
-    by false true v w et eu ew =
-        let h = ltb-true q 32 eu in bytes_laid (4097 * j + 1) (4097 * (j + 1)) (q - 16) (L.after_bit c) (bit_laid (4097 * j) c p) (omega arith)
-    by false false true w et eu ew = laid_more (4097 * j + 1) (4097 * (j + 1)) (L.after_bit c) (bit_laid (4097 * j) c p) (omega arith)
-    by false false false true et eu ew = let h = ltb-true q 64 ew in bytes_laid (4097 * j) (4097 * (j + 1)) (q - 48) c p (omega arith)
-    by false false false false et eu ew = bytes_laid (4097 * j) (4097 * (j + 1)) 1 c p (omega arith)
+    by : (i : Code) → Small i → Laid (4097 * (j + 1)) (behind i c)
+    by (Number false w) h = bytes_laid (4097 * j) (4097 * (j + 1)) w c p (omega arith)
+    by (Number true w) h = bytes_laid (4097 * j + 1) (4097 * (j + 1)) w (L.after_bit c) (bit_laid (4097 * j) c p) (omega arith)
+    by Boolean h = laid_more (4097 * j + 1) (4097 * (j + 1)) (L.after_bit c) (bit_laid (4097 * j) c p) (omega arith)
+    by (Float w) h = bytes_laid (4097 * j) (4097 * (j + 1)) w c p (omega arith)
+    by (Enumerated k) h = bytes_laid (4097 * j) (4097 * (j + 1)) 1 c p (omega arith)
 
 -- ---- the record of member j
 pub coded-member : (b : List ℕ) (t j : ℕ) → t < P.table_count b → (count : ℕ) → count ≡ length (Sc.table_of (P.parse b) t).members → j < count → (first : ℕ)

@@ -48,44 +48,6 @@ flat-lawful child S m (F.Struct i) none at bit h = by (struct_ok S m i at) refl 
     by true e g = e
     by false e g = absurd g
 
-pub struct_lawful : (S : Schema) (m : List ℕ) (k : Flat) (at : ℕ) → D.FlatReadable S m k at → (i j : ℕ) → k ≡ F.Struct i → j ≡ i → struct_ok S m j at ≡ true
-unfolding D.FlatReadable
-struct_lawful S m k at h i j e ej =
-    subst (λ (x : ℕ). struct_ok S m x at ≡ true) (sym ej) (subst (λ (f : Flat). D.FlatReadable S m f at) e h)
-
--- ---- by the kind
-module _ (S : Schema) (m : List ℕ) (k : Flat) (none : Bool) (at bit : ℕ) (out out₁ : List ℕ) (p q : ℕ) where
-  pub flat_boolean : k ≡ F.Boolean → (x y : ℕ) → y ≡ get_or m at 0 → x ≡ y / 2 ^ bit % 2 → Puts out p (K.marked 1 1 x) out₁ q → Puts out p (A.flat_at S m k none at bit) out₁ q
-  unfolding A.flat_at bit_at
-  flat_boolean e x y ey ex h = rw e (subst (λ (z : ℕ). Puts out p (K.marked 1 1 z) out₁ q) (ex ∙ ap (λ (z : ℕ). z / 2 ^ bit % 2) ey) h)
-
-  pub flat_integer_lem : (s : Bool) (w : ℕ) → k ≡ F.Integer s w → (v u x : ℕ) → v ≡ w → u ≡ w → Number m at v x → Puts out p (K.marked 1 (8 * u) x) out₁ q
-      → Puts out p (A.flat_at S m k none at bit) out₁ q
-  unfolding A.flat_at
-  flat_integer_lem s w e v u x ev eu n h =
-      rw e
-      (subst (λ (z : ℕ). Puts out p (K.marked 1 (8 * w) z) out₁ q) (n.is ∙ ap (le m at) ev) (subst (λ (z : ℕ). Puts out p (K.marked 1 (8 * z) x) out₁ q) eu h))
-
-  pub flat_float : (w : ℕ) → k ≡ F.Float w → (v x : ℕ) → v ≡ w → Number m at v x → Puts out p (K.float_at none w x) out₁ q → Puts out p (A.flat_at S m k none at bit) out₁ q
-  unfolding A.flat_at
-  flat_float w e v x ev n h = rw e (subst (λ (z : ℕ). Puts out p (K.float_at none w z) out₁ q) (n.is ∙ ap (le m at) ev) h)
-
-  pub flat-enum : (n x : ℕ) → k ≡ F.Enumerated n → x ≡ get_or m at 0 → Puts out p (K.enum_at n x) out₁ q → Puts out p (A.flat_at S m k none at bit) out₁ q
-  unfolding A.flat_at
-  flat-enum n x e ex h = rw e (subst (λ (z : ℕ). Puts out p (K.enum_at n z) out₁ q) ex h)
-
-  pub flat-struct : (i j : ℕ) → k ≡ F.Struct i → j ≡ i → Puts out p (A.whole_at S m j at) out₁ q → Puts out p (A.flat_at S m k none at bit) out₁ q
-  unfolding A.flat_at
-  flat-struct i j e ej h = rw e (subst (λ (z : ℕ). Puts out p (A.whole_at S m z at) out₁ q) ej h)
-
--- ---- widths
-module _ (c : ℕ) (k : Flat) (sound : FlatSound c k) (w : ℕ) where
-  pub integer-bits : (s : Bool) → k ≡ F.Integer s w → (v : ℕ) → v ≡ w → 8 * v ≤ 64
-  integer-bits s e v q = let l = subst (FlatSound c) e sound in omega arith
-
-  pub float-width : k ≡ F.Float w → w ≤ 8
-  float-width e = ⊎_elim (λ l. omega arith) (λ l. omega arith) (subst (FlatSound c) e sound)
-
 -- ---- the bits of a flat value's step
 pub flat-bits : (o d : ℕ) (S : Schema) (m : List ℕ) (k : Flat) (none : Bool) (at bit : ℕ)
     → A.flat_at S m k none at bit ≡ A.step_at o d S m (OfFlat k) (T.struct_tested S m (T.flat_step m k none at bit))
@@ -123,31 +85,3 @@ is_false false e = refl
 pub is_true : (t : Bool) → not t ≡ false → t ≡ true
 is_true true e = refl
 is_true false e = sym e
-
-module _ (S : Schema) (m : List ℕ) (k : Kind) (none here : Bool) (at bit : ℕ) (out out₁ : List ℕ) (p q : ℕ) where
-  pub member_none : not here ≡ true → Puts out p (bits_of 2 0) out₁ q → Puts out p (A.member_at S m k none here at bit) out₁ q
-  unfolding A.member_at
-  member_none e h = simp (is_false here e) h
-
-  pub member-flat : not here ≡ false → (f : Flat) → k ≡ OfFlat f → Puts out p (A.flat_at S m f none at bit) out₁ q → Puts out p (A.member_at S m k none here at bit) out₁ q
-  unfolding A.member_at A.value_at
-  member-flat e f ek h = rw ek (simp (is_true here e) h)
-
-module _ (S : Schema) (m : List ℕ) (k : Kind) (none here : Bool) (at bit : ℕ) (out : List ℕ) (p : ℕ) (g : Room out p) (e : not here ≡ false) where
-  pub member-object : (ob : Object) → k ≡ OfObject ob → Puts out p (A.member_at S m k none here at bit) out p
-  unfolding A.member_at A.value_at
-  member-object ob ek = rw ek (simp (is_true here e) (puts_none out p g.most))
-
-  pub member_union : (u : ℕ) → k ≡ OfUnion u → Puts out p (A.member_at S m k none here at bit) out p
-  unfolding A.member_at A.value_at
-  member_union u ek = rw ek (simp (is_true here e) (puts_none out p g.most))
-
-pub flat_there : (S : Schema) (m : List ℕ) (k : Kind) (here : Bool) (at : ℕ) → (here ≡ true → D.ValueInside S m k at) → not here ≡ false → (f : Flat) → k ≡ OfFlat f
-    → at + flat_width (struct_size S) f ≤ length m
-unfolding D.ValueInside
-flat_there S m k here at h e f ek = subst (λ (j : Kind). D.ValueInside S m j at) ek (h (is_true here e))
-
-pub flat-given : (S : Schema) (m : List ℕ) (k : Kind) (here : Bool) (at : ℕ) → (here ≡ true → D.ValueReadable S m k at) → not here ≡ false → (f : Flat) → k ≡ OfFlat f
-    → D.FlatReadable S m f at
-unfolding D.ValueReadable
-flat-given S m k here at h e f ek = subst (λ (j : Kind). D.ValueReadable S m j at) ek (h (is_true here e))

@@ -20,6 +20,7 @@ use Rattle.coding.specs.declared.Kind.{Kind}
 use Rattle.coding.specs.declared.Kind.TheVariants.{OfObject, OfUnion}
 use Rattle.coding.specs.declared.Member.{Member}
 use Rattle.coding.specs.declared.Cursor.{Cursor}
+use Rattle.coding.specs.declared.Place.{Place}
 use Rattle.coding.specs.declared.Step.{Step}
 use Rattle.coding.specs.declared.Step.TheVariants as St
 use Rattle.laws.specs.Sound.{KindSound}
@@ -32,8 +33,8 @@ use Rattle.sheet_values.proofs.Remaining.{Remaining, remaining_turn}
 use Rattle.sheet_walk.specs.MessageBits as A
 use Rattle.sheet_walk.specs.Readable as D
 use Rattle.sheet_walk.proofs.Flats.{is_flat, is_true, is_false}
-use Rattle.sheet_walk.proofs.Values.{tested-object, tested-union, value-object, value-union}
-use Rattle.sheet_walk.proofs.Parts.{members-opened, members_cons}
+use Rattle.sheet_walk.proofs.Objects.{step_absent, object_readable}
+use Rattle.sheet_walk.proofs.Values.{object_none, object_there, tested-object, tested-union, value-object, value-union}
 
 -- ---- the kind by its number
 module _ (b : List ℕ) (at : ℕ) where
@@ -54,11 +55,11 @@ flat_kind : (b : List ℕ) (at : ℕ) → P.kind_at b at ≤ 12 → is_flat (P.m
 unfolding P.member_at P.element_at P.kind_of is_flat
 flat_kind b at h = let g : P.kind_at b at < 13 = omega arith in simp (lt-ltb _ _ g)
 
-pub flat-member : (b : List ℕ) (at k : ℕ) → k ≡ P.kind_at b at → (t : Bool) → t ≡ ltb k 13 → not t ≡ false → (r : Member) → P.member_at b at ≡ r → (q : Kind) → q ≡ r.kind → is_flat q ≡ true
-flat-member b at k ek t et h r er q eq =
+pub flat-member : (b : List ℕ) (at k : ℕ) → k ≡ P.kind_at b at → (t : Bool) → t ≡ ltb k 13 → not t ≡ false → (r : Member) → r ≡ P.member_at b at → is_flat r.kind ≡ true
+flat-member b at k ek t et h r er =
     let l = ltb-true k 13 (sym et ∙ is_true t h) in
     let g : P.kind_at b at ≤ 12 = omega arith in
-    subst (λ (i : Kind). is_flat i ≡ true) (sym (eq ∙ ap (λ (i : Member). i.kind) (sym er))) (flat_kind b at g)
+    subst (λ (i : Member). is_flat i.kind ≡ true) (sym er) (flat_kind b at g)
 
 -- ---- where such a member stands
 -- a kind that is no bool and takes no flag, and its bytes
@@ -174,44 +175,57 @@ module _ (o : ℕ) (b : List ℕ) (at k : ℕ) (ek : k ≡ P.kind_at b at) (low 
 
       -- a union's choice and its reference
       module _ (t : Bool) (et : t ≡ eqb k 17) (h : t ≡ true) (a u : ℕ) (ea : a ≡ P.argument_at b at) (eu : u ≡ a) (i x : ℕ) (ni : Number m (start + c.end) 2 i)
-          (ex : x ≡ le m (start + c.end + 2) o) where
-        chosen : T.union_step (Sc.cases_of (P.parse b) u) inplace (start + n) i x ≡ step
+          (ex : x ≡ le m (start + c.end + 2) o) (place : Place) (ep : place ≡ T.place_of inplace (start + n) x) where
+        chosen : A.choice_step (Sc.cases_of (P.parse b) u) i place ≡ step
+        unfolding A.choice_step T.union_step
         chosen =
-            value_so (T.union_step (Sc.cases_of (P.parse b) u) inplace (start + n) i x)
+            ap (A.choice_step (Sc.cases_of (P.parse b) u) i) ep
+            ∙ value_so (T.union_step (Sc.cases_of (P.parse b) u) inplace (start + n) i x)
             (tested-union (P.parse b) m (Sc.cases_of (P.parse b) u) inplace (start + n) i x
             ∙ ap (T.struct_tested (P.parse b) m) (value-union o (P.parse b) m (P.member_at b at).kind (P.member_at b at).optional inplace (start + n) (start + c.end) 0
             (P.argument_at b at) u (of-union (eqb-true k 17 (sym et ∙ h))) (eu ∙ ea) i x ni.is ex))
 
         pub chosen-given : D.StepReadable (D.ObjectReadable o d (P.parse b) m) (P.parse b) m (T.member_step o (P.parse b) m start n c (P.member_at b at))
-            → D.StepReadable (D.ObjectReadable o d (P.parse b) m) (P.parse b) m (T.union_step (Sc.cases_of (P.parse b) u) inplace (start + n) i x)
+            → D.StepReadable (D.ObjectReadable o d (P.parse b) m) (P.parse b) m (A.choice_step (Sc.cases_of (P.parse b) u) i place)
         chosen-given g = subst (D.StepReadable (D.ObjectReadable o d (P.parse b) m) (P.parse b) m) (sym chosen) g
 
-        pub lead-chosen : (out out₁ : List ℕ) (p q : ℕ) → Puts out p (A.choice_at o d (P.parse b) m u inplace (start + n) i x) out₁ q
+        pub lead-chosen : (out out₁ : List ℕ) (p q : ℕ) → Puts out p (A.choice_at o d (P.parse b) m u i place) out₁ q
             → Puts out p (A.step_at o d (P.parse b) m (P.member_at b at).kind (T.member_step o (P.parse b) m start n c (P.member_at b at))) out₁ q
         unfolding A.choice_at
         lead-chosen out out₁ p q g =
-            puts-same out out₁ p q (A.choice_at o d (P.parse b) m u inplace (start + n) i x) (A.step_at o d (P.parse b) m (P.member_at b at).kind step)
+            puts-same out out₁ p q (A.choice_at o d (P.parse b) m u i place) (A.step_at o d (P.parse b) m (P.member_at b at).kind step)
             (ap₂ (A.step_at o d (P.parse b) m) (sym (of-union (eqb-true k 17 (sym et ∙ h)) ∙ ap OfUnion (sym (eu ∙ ea)))) chosen) g
 
       -- another object's reference
-      module _ (t : Bool) (et : t ≡ eqb k 17) (h : t ≡ false) (ob : Object) (eo : ob ≡ P.object_at b at) (x : ℕ) (ex : x ≡ le m (start + c.end) o) where
-        referred : T.object_step ob inplace (start + n) x ≡ step
-        referred =
+      module _ (t : Bool) (et : t ≡ eqb k 17) (h : t ≡ false) (x : ℕ) (ex : x ≡ le m (start + c.end) o) where
+        referred : (ob : Object) → ob ≡ P.object_at b at → T.object_step ob inplace (start + n) x ≡ step
+        referred ob eo =
             value_so (T.object_step ob inplace (start + n) x)
             (tested-object (P.parse b) m ob inplace (start + n) x
             ∙ ap (T.struct_tested (P.parse b) m) (value-object o (P.parse b) m (P.member_at b at).kind (P.member_at b at).optional inplace (start + n) (start + c.end) 0
             ob (of-object (eqb-false k 17 (sym et ∙ h)) ∙ ap OfObject (sym eo)) x ex))
 
-        pub referred-given : D.StepReadable (D.ObjectReadable o d (P.parse b) m) (P.parse b) m (T.member_step o (P.parse b) m start n c (P.member_at b at))
-            → D.StepReadable (D.ObjectReadable o d (P.parse b) m) (P.parse b) m (T.object_step ob inplace (start + n) x)
-        referred-given g = subst (D.StepReadable (D.ObjectReadable o d (P.parse b) m) (P.parse b) m) (sym referred) g
-
-        pub lead-referred : (out out₁ : List ℕ) (p q : ℕ) → Puts out p (A.reference_at o d (P.parse b) m ob inplace (start + n) x) out₁ q
+        pub lead-absent : x ≡ 0 → (out out₁ : List ℕ) (p q : ℕ) → Puts out p (bits_of 2 0) out₁ q
             → Puts out p (A.step_at o d (P.parse b) m (P.member_at b at).kind (T.member_step o (P.parse b) m start n c (P.member_at b at))) out₁ q
-        unfolding A.reference_at
-        lead-referred out out₁ p q g =
-            puts-same out out₁ p q (A.reference_at o d (P.parse b) m ob inplace (start + n) x) (A.step_at o d (P.parse b) m (P.member_at b at).kind step)
-            (ap₂ (A.step_at o d (P.parse b) m) (sym (of-object (eqb-false k 17 (sym et ∙ h)) ∙ ap OfObject (sym eo))) referred) g
+        lead-absent e out out₁ p q g =
+            step_absent o d (P.parse b) m (P.member_at b at).kind out out₁ p q step
+            (sym (referred (P.object_at b at) refl) ∙ sym (object_none inplace (start + n) x (P.object_at b at) e)) g
+
+        -- the object that it leads to
+        module _ (leads : x ≡ 0 → ⊥) (ob : Object) (eo : ob ≡ P.object_at b at) (place : Place) (ep : place ≡ T.place_of inplace (start + n) x) where
+          leads_to : St.Object ob place ≡ step
+          leads_to = object_there inplace (start + n) x ob leads place ep ∙ referred ob eo
+
+          pub lead-given : D.StepReadable (D.ObjectReadable o d (P.parse b) m) (P.parse b) m (T.member_step o (P.parse b) m start n c (P.member_at b at))
+              → D.ObjectReadable o d (P.parse b) m ob place
+          lead-given g = object_readable o d (P.parse b) m step g ob place (sym leads_to)
+
+          pub lead-present : (out out₁ : List ℕ) (p q : ℕ) → Puts out p (A.present_at o d (P.parse b) m ob place) out₁ q
+              → Puts out p (A.step_at o d (P.parse b) m (P.member_at b at).kind (T.member_step o (P.parse b) m start n c (P.member_at b at))) out₁ q
+          unfolding A.present_at A.step_at
+          lead-present out out₁ p q g =
+              puts-same out out₁ p q (A.present_at o d (P.parse b) m ob place) (A.step_at o d (P.parse b) m (P.member_at b at).kind step)
+              (ap (A.step_at o d (P.parse b) m (P.member_at b at).kind) leads_to) g
 
 module _ (b : List ℕ) (at k : ℕ) (ek : k ≡ P.kind_at b at) where
   pub lead-counted : (t : Bool) → t ≡ eqb k 17 → t ≡ true → KindSound (P.parse b) (P.member_at b at).kind → (a u : ℕ) → a ≡ P.argument_at b at → u ≡ a
@@ -231,30 +245,3 @@ lead_laid j w c next p h e =
     let x = p.end in
     let y = p.byte in
     subst (Laid (4097 * (j + 1))) (sym e) (record { end = omega arith; byte = omega arith; bit = p.bit })
-
-module _ (o d : ℕ) (S : Schema) (m : List ℕ) (start n t j count : ℕ) (c : Cursor) (ec : count ≡ length (Sc.table_of S t).members) (h : j < count)
-    (good : D.MembersReadable o (D.ObjectReadable o d S m) S m start n c (drop j (Sc.table_of S t).members)) (r : Member) (er : r ≡ Sc.member_of S t j) where
-  opened : drop j (Sc.table_of S t).members ≡ r ∷ drop (j + 1) (Sc.table_of S t).members
-  opened = members-opened S t j count ec h ∙ ap (λ (q : Member). q ∷ drop (j + 1) (Sc.table_of S t).members) (sym er)
-
-  split : D.StepReadable (D.ObjectReadable o d S m) S m (T.member_step o S m start n c r)
-      × D.MembersReadable o (D.ObjectReadable o d S m) S m start n (L.after_member o S r c) (drop (j + 1) (Sc.table_of S t).members)
-  unfolding D.MembersReadable
-  split = subst (D.MembersReadable o (D.ObjectReadable o d S m) S m start n c) opened good
-
-  pub lead_readable : D.StepReadable (D.ObjectReadable o d S m) S m (T.member_step o S m start n c r)
-  lead_readable = split.0
-
-  module _ (next : Cursor) (en : next ≡ L.after_member o S r c) where
-    pub lead-rest : D.MembersReadable o (D.ObjectReadable o d S m) S m start n next (drop (j + 1) (Sc.table_of S t).members)
-    lead-rest = subst (λ (q : Cursor). D.MembersReadable o (D.ObjectReadable o d S m) S m start n q (drop (j + 1) (Sc.table_of S t).members)) (sym en) split.1
-
-    pub lead_turn : (whole out₀ out out₁ : List ℕ) (p₀ p p₁ : ℕ) → Remaining out₀ p₀ whole out p (A.members_at o d S m start n c (drop j (Sc.table_of S t).members))
-        → Room out p → Puts out p (A.step_at o d S m r.kind (T.member_step o S m start n c r)) out₁ p₁
-        → Remaining out₀ p₀ whole out₁ p₁ (A.members_at o d S m start n next (drop (j + 1) (Sc.table_of S t).members))
-    lead_turn whole out₀ out out₁ p₀ p p₁ inv g put =
-        remaining_turn out₀ out out₁ p₀ p p₁ whole (A.members_at o d S m start n c (drop j (Sc.table_of S t).members)) (A.step_at o d S m r.kind (T.member_step o S m start n c r))
-        (A.members_at o d S m start n next (drop (j + 1) (Sc.table_of S t).members)) inv g.short
-        (ap (A.members_at o d S m start n c) opened ∙ members_cons o d S m start n c r (drop (j + 1) (Sc.table_of S t).members) split.0
-        ∙ ap (λ (q : Cursor). A.step_at o d S m r.kind (T.member_step o S m start n c r) ++ A.members_at o d S m start n q (drop (j + 1) (Sc.table_of S t).members)) (sym en))
-        put

@@ -10,6 +10,6 @@ pub mod Blobs
 pub mod References
 pub mod Runs
 pub mod CodedMembers
-pub mod CodedWays
 pub mod Leads
 pub mod Directs
+pub mod Placed

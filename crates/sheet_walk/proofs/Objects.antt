@@ -1,6 +1,6 @@
 -- The ways out of the writers of members, elements and objects.
 use mathlib.Core.Path.{◌≡◌, refl, sym, ap, ap₂, ◌∙◌, subst}
-use mathlib.Core.Bool.{Bool, true, false}
+use mathlib.Core.Logic.{◌⊎◌, inl, inr}
 use mathlib.Core.List.{List, ◌++◌}
 use Prim.Native.Nat.{ℕ, zero, suc, ◌+◌, ◌-◌, ◌*◌, ◌^◌, ◌<◌, ◌≤◌}
 use native.Mathlib.Omega.{arith}
@@ -43,127 +43,19 @@ use Rattle.bitio.specs.PutsLaws.{puts_none, puts_then, puts-same}
 use Rattle.sheet_values.specs.Marks as K
 use Rattle.sheet_walk.specs.MessageBits as A
 use Rattle.sheet_walk.specs.Readable as D
-use Rattle.sheet_walk.specs.Stepping.{MemberAt, is_here}
 
 -- ---- places
-module _ (o : ℕ) (ob : Object) (r : ℕ) where
-  pub header-text : ob ≡ O.Text → r ≡ 4 + o → r ≡ W.header_size o ob
-  unfolding W.header_size
-  header-text e h = rw e h
-
-  pub header_bytes : ob ≡ O.Bytes → r ≡ 4 + o → r ≡ W.header_size o ob
-  unfolding W.header_size
-  header_bytes e h = rw e h
-
-  pub header_list : (i : ℕ) → ob ≡ O.List i → r ≡ 4 + o → r ≡ W.header_size o ob
-  unfolding W.header_size
-  header_list i e h = rw e h
-
-  pub header-table : (i : ℕ) → ob ≡ O.Table i → r ≡ 4 + o → r ≡ W.header_size o ob
-  unfolding W.header_size
-  header-table i e h = rw e h
-
-  pub header-direct : (t : ℕ) → ob ≡ O.DirectList t → r ≡ 4 + o + 8 → r ≡ W.header_size o ob
-  unfolding W.header_size
-  header-direct t e h = rw e h
-
-header_least : (o : ℕ) (ob : Object) → 4 + o ≤ W.header_size o ob
-unfolding W.header_size
-header_least o O.Text = omega arith
-header_least o O.Bytes = omega arith
-header_least o (O.List i) = omega arith
-header_least o (O.Table i) = omega arith
-header_least o (O.DirectList t) = omega arith
-
-module _ (o : ℕ) (m : List ℕ) (ob : Object) (p : Place) where
-  pub start_offset : (x h : ℕ) → p ≡ ByOffset x → h ≡ W.header_size o ob → x + h ≡ D.start_of o ob p
-  unfolding D.start_of
-  start_offset x h e eh = rw e (ap (λ (i : ℕ). x + i) eh)
-
-  pub start_inplace : (a n : ℕ) → p ≡ InPlace a n → a ≡ D.start_of o ob p
-  unfolding D.start_of
-  start_inplace a n e = rw e
-
-  pub length_offset : (x r : ℕ) → p ≡ ByOffset x → r ≡ le m (x + 4) o → r ≡ D.length_of o m p
-  unfolding D.length_of
-  length_offset x r e h = rw e h
-
-  pub length_inplace : (a n : ℕ) → p ≡ InPlace a n → n ≡ D.length_of o m p
-  unfolding D.length_of
-  length_inplace a n e = rw e
-
-  pub header-inside : (x h : ℕ) → p ≡ ByOffset x → h ≡ W.header_size o ob → D.HeaderInside o m ob p → (x + h ≤ length m) × (4 + o ≤ h)
-  unfolding D.HeaderInside
-  header-inside x h e eh l =
-      (let g : x + W.header_size o ob ≤ length m = subst (D.HeaderInside o m ob) e l in omega arith, omega (arith, header_least o ob, eh))
-
+module _ (o : ℕ) (ob : Object) (p : Place) where
   -- where it stands, if some content behind that lies within the message
-  placed-within : (c : ℕ) → D.start_of o ob p + c ≤ length m → W.placed p ≤ length m
+  placed-within : (n c : ℕ) → D.start_of o ob p + c ≤ n → W.placed p ≤ n
   unfolding D.start_of W.placed
-  placed-within c h = by p h
+  placed-within n c h = by p h
     where
-      by : (q : Place) → D.start_of o ob q + c ≤ length m → W.placed q ≤ length m
+      by : (q : Place) → D.start_of o ob q + c ≤ n → W.placed q ≤ n
       by (ByOffset x) l = omega arith
       by (InPlace a n) l = omega arith
 
 -- ---- one member
-here_true : (g : Reach) → is_here g ≡ true → g ≡ Here
-unfolding is_here
-here_true Cut e = let z : ◌≡◌ {A = ℕ} 0 1 = cc in absurd (omega arith)
-here_true Past e = let z : ◌≡◌ {A = ℕ} 0 1 = cc in absurd (omega arith)
-here_true Here e = refl
-
-module _ (g : Reach) where
-  pub here-cut : g ≡ Cut → false ≡ is_here g
-  unfolding is_here
-  here-cut e = rw e
-
-  pub here_past : g ≡ Past → false ≡ is_here g
-  unfolding is_here
-  here_past e = rw e
-
-  pub here_here : g ≡ Here → true ≡ is_here g
-  unfolding is_here
-  here_here e = rw e
-
-value-within : (o : ℕ) (S : Schema) (m : List ℕ) (k : Kind) (at : ℕ) → at + L.width o S k ≤ length m → D.ValueInside S m k at
-unfolding L.width D.ValueInside
-value-within o S m (OfFlat f) at h = h
-value-within o S m (OfObject ob) at h = tt
-value-within o S m (OfUnion u) at h = tt
-
-pub member_is : (o : ℕ) (b dir : List ℕ) → Accepted b dir → (m : List ℕ) (t j start n : ℕ) (c : Cursor) (r : Member) → r ≡ Sc.member_of (P.parse b) t j
-    → j < length (Sc.table_of (P.parse b) t).members → j < 256 → start + n ≤ length m → length m ≤ 16777215 → Laid (4097 * j) c → (p : Placement) (next : Cursor)
-    → p ≡ L.placement_of o (P.parse b) r c → Stands (L.member_slot o (P.parse b) r c) (L.after_member o (P.parse b) r c) (c.end + 1) p.value next
-    → (flag : Bool) → flag ≡ L.has_flag r → (g : Reach) → g ≡ reach_of m start n p flag → (here : Bool) → here ≡ is_here g
-    → MemberAt o (P.parse b) m t j start n c r.kind r.optional r.inplace here (start + p.value.at) p.value.bit next
-unfolding T.member_step L.member_slot
-member_is o b dir a m t j start n c r e h few fits short laid p next ep stands flag ef g eg here eh =
-    let x = laid.end in
-    let q = stands.laid in
-    let l = q.end in
-    let z = stands.at in
-    let wide : p.value.size ≡ L.width o (P.parse b) r.kind =
-    ap (λ (i : Slot). i.size) stands.slot_is ∙ slot-size o (P.parse b) r.kind (L.after_flag r c) in
-    let s : MemberSound (P.parse b) (Sc.member_of (P.parse b) t j) = member_sound-at (P.parse b) (accepted_sound b dir a) t j h in
-    record {
-      reach = g;
-      here_is = eh;
-      kind_is = ap (λ (k : Member). k.kind) e;
-      step_is = ap (λ (k : Member). T.member_step o (P.parse b) m start n c k) (sym e)
-          ∙ ap (λ (y : Placement). T.struct_tested (P.parse b) m (T.placed_step o (P.parse b) m start n y r)) (sym ep)
-          ∙ ap (T.struct_tested (P.parse b) m)
-          (step-reached o (P.parse b) m start n p r
-          ∙ ap (λ (k : Reach). reached k (T.value_step o (P.parse b) m r.kind r.optional r.inplace (start + n) (start + p.value.at) p.value.bit))
-          (sym (eg ∙ ap (reach_of m start n p) ef)));
-      inside = λ v. value-within o (P.parse b) m r.kind (start + p.value.at) (omega (arith, wide, here-inside m start n p flag g eg (here_true g (sym eh ∙ v)), fits));
-      low = omega arith;
-      bit_low = stands.bit;
-      next_is = stands.next_is ∙ ap (λ (k : Member). L.after_member o (P.parse b) k c) e;
-      laid = record { end = omega arith; byte = q.byte; bit = q.bit };
-      sound = subst (λ (k : Member). KindSound (P.parse b) k.kind) (sym e) s.kind;
-    }
-
 pub member_sound-of : (b dir : List ℕ) → Accepted b dir → (t j : ℕ) (r : Member) → r ≡ Sc.member_of (P.parse b) t j
     → j < length (Sc.table_of (P.parse b) t).members → MemberSound (P.parse b) r
 member_sound-of b dir a t j r e h = rw e (member_sound-at (P.parse b) (accepted_sound b dir a) t j h)
@@ -180,11 +72,6 @@ module _ (o d : ℕ) (S : Schema) (m : List ℕ) (k : Kind) (out out₁ : List �
       rw e (subst (λ (v : ℕ). Puts out p (K.marked 2 v x) out₁ q) ew (subst (λ (v : ℕ). Puts out p (K.marked 2 w v) out₁ q) ey h))
 
   module _ (g : Room out p) (out₂ : List ℕ) (r : ℕ) where
-    pub step-object : (ob : Object) (place : Place) → step ≡ St.Object ob place → Puts out p (bits_of 2 1) out₁ q → Puts out₁ q (A.object_at o d S m ob place) out₂ r
-        → Puts out p (A.step_at o d S m k step) out₂ r
-    unfolding A.step_at
-    step-object ob place e h l = rw e (puts_then out out₁ out₂ p q r (bits_of 2 1) (A.object_at o d S m ob place) g.short h l)
-
     pub step-choice : (c x : ℕ) (ob : Object) (place : Place) → step ≡ St.Choice c ob place → x ≡ c → Puts out p (K.marked 1 16 x) out₁ q
         → Puts out₁ q (A.object_at o d S m ob place) out₂ r → Puts out p (A.step_at o d S m k step) out₂ r
     unfolding A.step_at
@@ -227,7 +114,7 @@ module _ (o d : ℕ) (S : Schema) (m : List ℕ) (ob : Object) (place : Place) (
   pub placed_low : length m ≤ 16777215 → (at : ℕ) → at ≡ W.placed place → at < 2 ^ 60
   placed_low short at ea =
       let e = (content_readable (W.placed place) (D.start_of o ob place) (D.length_of o m place) refl refl refl).inside in
-      let z = placed-within o m ob place (W.content_size o S m ob (W.placed place) (D.length_of o m place)) e in omega arith
+      let z = placed-within o ob place (length m) (W.content_size o S m ob (W.placed place) (D.length_of o m place)) e in omega arith
 
 pub object-same : (o d : ℕ) (S : Schema) (m : List ℕ) (ob : Object) (place : Place) (at start n : ℕ) → (d ≡ 0 → ⊥) → at ≡ W.placed place → start ≡ D.start_of o ob place
     → n ≡ D.length_of o m place → A.content_at o (d - 1) S m ob at start n ≡ A.object_at o d S m ob place
@@ -258,13 +145,10 @@ directs-count child t w zero at = refl
 directs-count child t w (suc n) at = ap suc (directs-count child t w n (at + w))
 
 module _ (o d : ℕ) (S : Schema) (m : List ℕ) (ob : Object) (at start n : ℕ) (out out₁ : List ℕ) (p q : ℕ) where
-  pub content-text : ob ≡ O.Text → Puts out p (E.blob_bits (take n (drop start m))) out₁ q → Puts out p (A.content_at o d S m ob at start n) out₁ q
+  pub content-blob : (ob ≡ O.Text) ⊎ (ob ≡ O.Bytes) → Puts out p (E.blob_bits (take n (drop start m))) out₁ q → Puts out p (A.content_at o d S m ob at start n) out₁ q
   unfolding A.content_at E.content_bits R.content_read Tree.as_blob
-  content-text e h = rw e h
-
-  pub content_bytes : ob ≡ O.Bytes → Puts out p (E.blob_bits (take n (drop start m))) out₁ q → Puts out p (A.content_at o d S m ob at start n) out₁ q
-  unfolding A.content_at E.content_bits R.content_read Tree.as_blob
-  content_bytes e h = rw e h
+  content-blob (inl e) h = rw e h
+  content-blob (inr e) h = rw e h
 
   module _ (i j : ℕ) (ej : j ≡ i) where
     pub content-table : ob ≡ O.Table i → Puts out p (A.members_at o d S m start n L.begin (Sc.table_of S j).members) out₁ q → Puts out p (A.content_at o d S m ob at start n) out₁ q

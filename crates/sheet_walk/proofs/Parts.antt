@@ -39,8 +39,8 @@ use Rattle.bitio.specs.PutsLaws.{puts_then, puts-same}
 use Rattle.sheet_lists.specs.Elements as Es
 use Rattle.sheet_walk.specs.MessageBits as A
 use Rattle.sheet_walk.specs.Readable as D
-use Rattle.sheet_walk.specs.Stepping.{MemberAt, Coded, behind, is_here}
-use Rattle.sheet_walk.proofs.Flats.{is_flat, flat-bits, flat-lawful}
+use Rattle.sheet_walk.specs.declared.Code.{Code}
+use Rattle.sheet_walk.specs.Stepping.{Coded, behind}
 use Rattle.sheet_walk.proofs.PartLaws.{member-part, element-part}
 use Rattle.sheet_values.proofs.Remaining.{Remaining, remaining_all, remaining_turn, remaining_done}
 
@@ -69,58 +69,33 @@ unfolding A.members_at E.members_bits R.members_read Tree.first Tree.others
 members_cons o d S m start n c r rs h =
     ap (λ (l : List ℕ). l ++ E.members_bits (E.encode d S) S rs (R.members_read (R.read d o S m) o S m start n (L.after_member o S r c) rs)) (member-part o d S m start n c r h)
 
--- a member that is cut has the bits of an absent one
-reached-bits : (o d : ℕ) (S : Schema) (m : List ℕ) (k : Kind) (none inplace : Bool) (tail at bit : ℕ) (g : Reach) → is_flat k ≡ true
-    → A.step_at o d S m k (T.struct_tested S m (reached g (T.value_step o S m k none inplace tail at bit))) ≡ A.member_at S m k none (is_here g) at bit
-unfolding A.step_at A.member_at A.value_at T.value_step T.struct_tested is_here is_flat reached
-reached-bits o d S m k none inplace tail at bit Cut e = refl
-reached-bits o d S m k none inplace tail at bit Past e = refl
-reached-bits o d S m (OfFlat f) none inplace tail at bit Here e = sym (flat-bits o d S m f none at bit)
-reached-bits o d S m (OfObject ob) none inplace tail at bit Here e = let z : ◌≡◌ {A = ℕ} 0 1 = cc in absurd (omega arith)
-reached-bits o d S m (OfUnion u) none inplace tail at bit Here e = let z : ◌≡◌ {A = ℕ} 0 1 = cc in absurd (omega arith)
-
-reached_readable : (o : ℕ) (child : D.Child) (S : Schema) (m : List ℕ) (k : Kind) (none inplace : Bool) (tail at bit : ℕ) (g : Reach)
-    → D.StepReadable child S m (T.struct_tested S m (reached g (T.value_step o S m k none inplace tail at bit))) → is_here g ≡ true → D.ValueReadable S m k at
-unfolding D.ValueReadable T.value_step T.struct_tested is_here reached
-reached_readable o child S m k none inplace tail at bit Cut h e = let z : ◌≡◌ {A = ℕ} 0 1 = cc in absurd (omega arith)
-reached_readable o child S m k none inplace tail at bit Past h e = let z : ◌≡◌ {A = ℕ} 0 1 = cc in absurd (omega arith)
-reached_readable o child S m (OfFlat f) none inplace tail at bit Here h e = flat-lawful child S m f none at bit h
-reached_readable o child S m (OfObject ob) none inplace tail at bit Here h e = tt
-reached_readable o child S m (OfUnion u) none inplace tail at bit Here h e = tt
-
+-- the member that comes next
 module _ (o d : ℕ) (S : Schema) (m : List ℕ) (start n t j count : ℕ) (c : Cursor) (ec : count ≡ length (Sc.table_of S t).members) (h : j < count)
-    (good : D.MembersReadable o (D.ObjectReadable o d S m) S m start n c (drop j (Sc.table_of S t).members)) (k : Kind) (none inplace here : Bool) (at bit : ℕ)
-    (next : Cursor) (is : MemberAt o S m t j start n c k none inplace here at bit next) where
-  split_readable : D.StepReadable (D.ObjectReadable o d S m) S m (T.member_step o S m start n c (Sc.member_of S t j))
-      × D.MembersReadable o (D.ObjectReadable o d S m) S m start n (L.after_member o S (Sc.member_of S t j) c) (drop (j + 1) (Sc.table_of S t).members)
+    (good : D.MembersReadable o (D.ObjectReadable o d S m) S m start n c (drop j (Sc.table_of S t).members)) (r : Member) (er : r ≡ Sc.member_of S t j) where
+  opened : drop j (Sc.table_of S t).members ≡ r ∷ drop (j + 1) (Sc.table_of S t).members
+  opened = members-opened S t j count ec h ∙ ap (λ (q : Member). q ∷ drop (j + 1) (Sc.table_of S t).members) (sym er)
+
+  split : D.StepReadable (D.ObjectReadable o d S m) S m (T.member_step o S m start n c r)
+      × D.MembersReadable o (D.ObjectReadable o d S m) S m start n (L.after_member o S r c) (drop (j + 1) (Sc.table_of S t).members)
   unfolding D.MembersReadable
-  split_readable = subst (D.MembersReadable o (D.ObjectReadable o d S m) S m start n c) (members-opened S t j count ec h) good
+  split = subst (D.MembersReadable o (D.ObjectReadable o d S m) S m start n c) opened good
 
-  pub member_readable : here ≡ true → D.ValueReadable S m k at
-  member_readable e =
-      reached_readable o (D.ObjectReadable o d S m) S m k none inplace (start + n) at bit is.reach
-      (subst (D.StepReadable (D.ObjectReadable o d S m) S m) is.step_is split_readable.0) (sym is.here_is ∙ e)
+  pub member_readable : D.StepReadable (D.ObjectReadable o d S m) S m (T.member_step o S m start n c r)
+  member_readable = split.0
 
-  pub rest_readable : D.MembersReadable o (D.ObjectReadable o d S m) S m start n next (drop (j + 1) (Sc.table_of S t).members)
-  rest_readable =
-      subst (λ (q : Cursor). D.MembersReadable o (D.ObjectReadable o d S m) S m start n q (drop (j + 1) (Sc.table_of S t).members)) (sym is.next_is) split_readable.1
+  module _ (next : Cursor) (en : next ≡ L.after_member o S r c) where
+    pub members-rest : D.MembersReadable o (D.ObjectReadable o d S m) S m start n next (drop (j + 1) (Sc.table_of S t).members)
+    members-rest = subst (λ (q : Cursor). D.MembersReadable o (D.ObjectReadable o d S m) S m start n q (drop (j + 1) (Sc.table_of S t).members)) (sym en) split.1
 
-  member-bits : is_flat k ≡ true → A.step_at o d S m (Sc.member_of S t j).kind (T.member_step o S m start n c (Sc.member_of S t j)) ≡ A.member_at S m k none here at bit
-  member-bits e =
-      ap₂ (A.step_at o d S m) (sym is.kind_is) is.step_is ∙ reached-bits o d S m k none inplace (start + n) at bit is.reach e
-      ∙ ap (λ (v : Bool). A.member_at S m k none v at bit) (sym is.here_is)
-
-  pub members_turn : is_flat k ≡ true → (whole out₀ out out₁ : List ℕ) (p₀ p p₁ : ℕ) → Remaining out₀ p₀ whole out p (A.members_at o d S m start n c (drop j (Sc.table_of S t).members))
-      → Room out p → Puts out p (A.member_at S m k none here at bit) out₁ p₁
-      → Remaining out₀ p₀ whole out₁ p₁ (A.members_at o d S m start n next (drop (j + 1) (Sc.table_of S t).members))
-  members_turn f whole out₀ out out₁ p₀ p p₁ inv g put =
-      remaining_turn out₀ out out₁ p₀ p p₁ whole (A.members_at o d S m start n c (drop j (Sc.table_of S t).members)) (A.member_at S m k none here at bit)
-      (A.members_at o d S m start n next (drop (j + 1) (Sc.table_of S t).members)) inv g.short
-      (ap (A.members_at o d S m start n c) (members-opened S t j count ec h)
-      ∙ members_cons o d S m start n c (Sc.member_of S t j) (drop (j + 1) (Sc.table_of S t).members) split_readable.0
-      ∙ ap₂ ◌++◌ (member-bits f)
-      (ap (λ (q : Cursor). A.members_at o d S m start n q (drop (j + 1) (Sc.table_of S t).members)) (sym is.next_is)))
-      put
+    pub members_turn : (whole out₀ out out₁ : List ℕ) (p₀ p p₁ : ℕ) → Remaining out₀ p₀ whole out p (A.members_at o d S m start n c (drop j (Sc.table_of S t).members))
+        → Room out p → Puts out p (A.step_at o d S m r.kind (T.member_step o S m start n c r)) out₁ p₁
+        → Remaining out₀ p₀ whole out₁ p₁ (A.members_at o d S m start n next (drop (j + 1) (Sc.table_of S t).members))
+    members_turn whole out₀ out out₁ p₀ p p₁ inv g put =
+        remaining_turn out₀ out out₁ p₀ p p₁ whole (A.members_at o d S m start n c (drop j (Sc.table_of S t).members)) (A.step_at o d S m r.kind (T.member_step o S m start n c r))
+        (A.members_at o d S m start n next (drop (j + 1) (Sc.table_of S t).members)) inv g.short
+        (ap (A.members_at o d S m start n c) opened ∙ members_cons o d S m start n c r (drop (j + 1) (Sc.table_of S t).members) split.0
+        ∙ ap (λ (q : Cursor). A.step_at o d S m r.kind (T.member_step o S m start n c r) ++ A.members_at o d S m start n q (drop (j + 1) (Sc.table_of S t).members)) (sym en))
+        put
 
 pub members_done : (o d : ℕ) (S : Schema) (m : List ℕ) (start n t j count : ℕ) (c : Cursor) (whole out₀ out : List ℕ) (p₀ p : ℕ)
     → Remaining out₀ p₀ whole out p (A.members_at o d S m start n c (drop j (Sc.table_of S t).members)) → Room out p → count ≡ length (Sc.table_of S t).members → count ≤ j
@@ -131,32 +106,15 @@ members_done o d S m start n t j count c whole out₀ out p₀ p inv g ec h =
     remaining_done out₀ out p₀ p whole (A.members_at o d S m start n c (drop j (Sc.table_of S t).members)) inv g
     (ap (λ (rs : List Member). A.members_at o d S m start n c rs) (drop_of_length-le (Sc.table_of S t).members l))
 
--- a member by its record
-module _ (o d : ℕ) (S : Schema) (m : List ℕ) (start n t j count : ℕ) (c : Cursor) (ec : count ≡ length (Sc.table_of S t).members) (h : j < count)
-    (good : D.MembersReadable o (D.ObjectReadable o d S m) S m start n c (drop j (Sc.table_of S t).members)) (r : Member) (er : r ≡ Sc.member_of S t j) (w : ℕ)
-    (is : Coded r w) (next : Cursor) (en : next ≡ behind w c) where
-  coded_split : D.StepReadable (D.ObjectReadable o d S m) S m (T.member_step o S m start n c (Sc.member_of S t j))
-      × D.MembersReadable o (D.ObjectReadable o d S m) S m start n (L.after_member o S (Sc.member_of S t j) c) (drop (j + 1) (Sc.table_of S t).members)
-  unfolding D.MembersReadable
-  coded_split = subst (D.MembersReadable o (D.ObjectReadable o d S m) S m start n c) (members-opened S t j count ec h) good
+-- a member by its code
+module _ (r : Member) (q : Code) (is : Coded r q) (c : Cursor) where
+  pub coded_next : (o : ℕ) (S : Schema) (next : Cursor) → next ≡ behind q c → next ≡ L.after_member o S r c
+  coded_next o S next e = e ∙ sym (is.next_is o S c)
 
-  coded-behind : L.after_member o S (Sc.member_of S t j) c ≡ next
-  coded-behind = ap (λ (q : Member). L.after_member o S q c) (sym er) ∙ is.next_is o S c ∙ sym en
-
-  pub coded-rest : D.MembersReadable o (D.ObjectReadable o d S m) S m start n next (drop (j + 1) (Sc.table_of S t).members)
-  coded-rest = subst (λ (q : Cursor). D.MembersReadable o (D.ObjectReadable o d S m) S m start n q (drop (j + 1) (Sc.table_of S t).members)) coded-behind coded_split.1
-
-  pub coded_turn : (whole out₀ out out₁ : List ℕ) (p₀ p p₁ : ℕ) → Remaining out₀ p₀ whole out p (A.members_at o d S m start n c (drop j (Sc.table_of S t).members))
-      → Room out p → Puts out p (A.coded_at m w start n c) out₁ p₁ → Remaining out₀ p₀ whole out₁ p₁ (A.members_at o d S m start n next (drop (j + 1) (Sc.table_of S t).members))
-  coded_turn whole out₀ out out₁ p₀ p p₁ inv g put =
-      remaining_turn out₀ out out₁ p₀ p p₁ whole (A.members_at o d S m start n c (drop j (Sc.table_of S t).members)) (A.coded_at m w start n c)
-      (A.members_at o d S m start n next (drop (j + 1) (Sc.table_of S t).members)) inv g.short
-      (ap (A.members_at o d S m start n c) (members-opened S t j count ec h)
-      ∙ members_cons o d S m start n c (Sc.member_of S t j) (drop (j + 1) (Sc.table_of S t).members) coded_split.0
-      ∙ ap₂ ◌++◌
-      (ap (λ (q : Member). A.step_at o d S m q.kind (T.member_step o S m start n c q)) (sym er) ∙ is.bits_are o d S m start n c)
-      (ap (λ (q : Cursor). A.members_at o d S m start n q (drop (j + 1) (Sc.table_of S t).members)) coded-behind))
-      put
+  pub coded_puts : (o d : ℕ) (S : Schema) (m : List ℕ) (start n : ℕ) (out out₁ : List ℕ) (p p₁ : ℕ) → Puts out p (A.coded_at m q start n c) out₁ p₁
+      → Puts out p (A.step_at o d S m r.kind (T.member_step o S m start n c r)) out₁ p₁
+  coded_puts o d S m start n out out₁ p p₁ put =
+      puts-same out out₁ p p₁ (A.coded_at m q start n c) (A.step_at o d S m r.kind (T.member_step o S m start n c r)) (sym (is.bits_are o d S m start n c)) put
 
 -- ---- elements with their marks
 pub elements_start : (o d : ℕ) (S : Schema) (m : List ℕ) (k : Kind) (start n : ℕ) (out : List ℕ) (p : ℕ)
@@ -211,54 +169,7 @@ elements_done o d S m k start n j whole out₀ out p₀ p inv g h =
     let z : n - j ≡ 0 = omega arith in
     remaining_done out₀ out p₀ p whole (A.elements_at o d S m k start (n - j) j) inv g (ap (λ (x : ℕ). A.elements_at o d S m k start x j) z)
 
--- ---- elements without a mark
-bools-same : (o d : ℕ) (S : Schema) (m : List ℕ) (start n i : ℕ) → Es.bools_at m start n i ≡ A.elements_at o d S m (OfFlat F.Boolean) start n i
-unfolding Es.bools_at Es.bool_at A.elements_at E.elements_bits R.elements_read E.element_bits E.unmarked E.flat_unmarked E.body_bits E.flat_bits R.step_read T.element_step T.struct_tested T.value_step T.flat_step T.element_place L.is_bool L.flat_is_bool Tree.as_number
-bools-same o d S m start zero i = refl
-bools-same o d S m start (suc n) i = ap (λ (l : List ℕ). bits_of 1 (bit_at m (start + i / 8) (i % 8)) ++ l) (bools-same o d S m start n (i + 1))
-
-numbers-same : (o d : ℕ) (S : Schema) (m : List ℕ) (s : Bool) (w start n i : ℕ)
-    → Es.numbers_at m w n (start + w * i) ≡ A.elements_at o d S m (OfFlat (F.Integer s w)) start n i
-unfolding Es.numbers_at A.elements_at E.elements_bits R.elements_read E.element_bits E.unmarked E.flat_unmarked E.body_bits E.flat_bits R.step_read T.element_step T.struct_tested T.value_step T.flat_step T.element_place L.is_bool L.flat_is_bool Tree.as_number L.width flat_width
-numbers-same o d S m s w start zero i = refl
-numbers-same o d S m s w start (suc n) i =
-    let z : w * (i + 1) ≡ w * i + w = ap (λ (x : ℕ). w * x) (add-one i) ∙ mul-suc w i in
-    let y : start + w * i + w ≡ start + w * (i + 1) = omega arith in
-    ap (λ (l : List ℕ). bits_of (8 * w) (le m (start + w * i) w) ++ l) (ap (Es.numbers_at m w n) y ∙ numbers-same o d S m s w start n (i + 1))
-
-bool_kind : (k : Kind) → L.is_bool k ≡ true → k ≡ OfFlat F.Boolean
-unfolding L.is_bool L.flat_is_bool
-bool_kind (OfFlat F.Boolean) e = refl
-bool_kind (OfFlat (F.Integer s w)) e = let z : ◌≡◌ {A = ℕ} 0 1 = cc in absurd (omega arith)
-bool_kind (OfFlat (F.Float w)) e = let z : ◌≡◌ {A = ℕ} 0 1 = cc in absurd (omega arith)
-bool_kind (OfFlat (F.Enumerated n)) e = let z : ◌≡◌ {A = ℕ} 0 1 = cc in absurd (omega arith)
-bool_kind (OfFlat (F.Struct i)) e = let z : ◌≡◌ {A = ℕ} 0 1 = cc in absurd (omega arith)
-bool_kind (OfObject ob) e = let z : ◌≡◌ {A = ℕ} 0 1 = cc in absurd (omega arith)
-bool_kind (OfUnion i) e = let z : ◌≡◌ {A = ℕ} 0 1 = cc in absurd (omega arith)
-
--- an integer kind is one by its width
-pub integer_kind : (o d : ℕ) (S : Schema) (m : List ℕ) (k : Kind) (start n : ℕ) → 0 < integer_width k → Es.numbers_at m (integer_width k) n start ≡ A.elements_at o d S m k start n 0
-unfolding integer_width flat_integer
-integer_kind o d S m (OfFlat F.Boolean) start n h = absurd (omega arith)
-integer_kind o d S m (OfFlat (F.Integer s w)) start n h =
-    let z : start ≡ start + w * 0 = sym (ap (λ (x : ℕ). start + x) (mul-zero w) ∙ add-zero start) in
-    ap (Es.numbers_at m w n) z ∙ numbers-same o d S m s w start n 0
-integer_kind o d S m (OfFlat (F.Float w)) start n h = absurd (omega arith)
-integer_kind o d S m (OfFlat (F.Enumerated c)) start n h = absurd (omega arith)
-integer_kind o d S m (OfFlat (F.Struct i)) start n h = absurd (omega arith)
-integer_kind o d S m (OfObject ob) start n h = absurd (omega arith)
-integer_kind o d S m (OfUnion i) start n h = absurd (omega arith)
-
-pub integer_eight : (S : Schema) (k : Kind) (w : ℕ) → KindSound S k → w ≡ integer_width k → w ≤ 8
-unfolding integer_width flat_integer
-integer_eight S (OfFlat F.Boolean) w l e = omega arith
-integer_eight S (OfFlat (F.Integer s v)) w l e = let a = l.1 in omega arith
-integer_eight S (OfFlat (F.Float v)) w l e = omega arith
-integer_eight S (OfFlat (F.Enumerated c)) w l e = omega arith
-integer_eight S (OfFlat (F.Struct i)) w l e = omega arith
-integer_eight S (OfObject ob) w l e = omega arith
-integer_eight S (OfUnion i) w l e = omega arith
-
+-- ---- a list
 pub element_sound : (b dir : List ℕ) → Accepted b dir → (i : ℕ) (k : Kind) → k ≡ Sc.element_of (P.parse b) i → KindSound (P.parse b) k
 element_sound b dir a i k e = rw e ((accepted_sound b dir a).lists i).kind
 
@@ -279,16 +190,6 @@ module _ (o d : ℕ) (S : Schema) (m : List ℕ) (i start n x : ℕ) (k : Kind) 
   list-elements l =
       puts_then out out₁ out₂ p q r (bits_of 32 n) (A.elements_at o d S m (Sc.element_of S i) start n 0) g.short
       (subst (λ (v : ℕ). Puts out p (bits_of 32 v) out₁ q) ex h) (subst (λ (v : Kind). Puts out₁ q (A.elements_at o d S m v start n 0) out₂ r) e l)
-
-  pub list-bools : (t : Bool) → t ≡ L.is_bool k → t ≡ true → Puts out₁ q (Es.bools_at m start n 0) out₂ r → Puts out p (A.list_at o d S m (Sc.element_of S i) start n) out₂ r
-  list-bools t et f l =
-      list-elements (puts-same out₁ out₂ q r (Es.bools_at m start n 0) (A.elements_at o d S m k start n 0)
-      (bools-same o d S m start n 0 ∙ ap (λ (v : Kind). A.elements_at o d S m v start n 0) (sym (bool_kind k (sym et ∙ f)))) l)
-
-  pub list-numbers : (w : ℕ) → w ≡ integer_width k → 0 < w → Puts out₁ q (Es.numbers_at m w n start) out₂ r → Puts out p (A.list_at o d S m (Sc.element_of S i) start n) out₂ r
-  list-numbers w ew f l =
-      list-elements (puts-same out₁ out₂ q r (Es.numbers_at m w n start) (A.elements_at o d S m k start n 0)
-      (ap (λ (v : ℕ). Es.numbers_at m v n start) ew ∙ integer_kind o d S m k start n (subst (λ (v : ℕ). 0 < v) ew f)) l)
 
 module _ (o : ℕ) (S : Schema) (i : ℕ) (k : Kind) (e : k ≡ Sc.element_of S i) where
   pub elements-inside : (start n c : ℕ) → start + T.elements_size o S (Sc.element_of S i) n ≤ c → start + T.elements_size o S k n ≤ c

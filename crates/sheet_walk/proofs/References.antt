@@ -20,41 +20,49 @@ use Rattle.bitio.specs.Puts.{Room, Puts}
 use Rattle.sheet_walk.specs.MessageBits as A
 use Rattle.sheet_walk.specs.Readable as D
 use Rattle.sheet_values.proofs.Remaining.{Remaining}
-use Rattle.sheet_walk.proofs.Values.{tested-object, tested-union}
+use Rattle.coding.specs.declared.Place.TheVariants.{ByOffset}
+use Rattle.coding.specs.declared.Step.TheVariants as St
+use Rattle.sheet_walk.proofs.Values.{object_none, object_there, tested-object, tested-union}
 use Rattle.sheet_walk.proofs.Parts.{element_readable, elements_turn, list-elements}
 
 -- ---- places in a run of values that have w bytes each
-module _ (w start j n at : ℕ) (h : j < n) (ea : at ≡ start + w * j) where
-  pub run_inside : (c : ℕ) → start + w * n ≤ c → at + w ≤ c
-  run_inside c l = omega (arith, ea, l, times-within w j n h)
+pub run_inside : (w start j n : ℕ) → j < n → (c : ℕ) → start + w * n ≤ c → start + w * j + w ≤ c
+run_inside w start j n h c l = omega (arith, l, times-within w j n h)
 
-  pub run_next : at + w ≡ start + w * (j + 1)
-  run_next = omega (arith, ea, times_more w j)
+pub run_next : (w start j : ℕ) → start + w * j + w ≡ start + w * (j + 1)
+run_next w start j = omega (arith, times_more w j)
 
 -- ---- offsets
-offset_step : (o : ℕ) (S : Schema) (m : List ℕ) (ob : Object) (start j at x : ℕ) → at ≡ start + o * j → x ≡ le m at o
+offset_step : (o : ℕ) (S : Schema) (m : List ℕ) (ob : Object) (start j x : ℕ) → x ≡ le m (start + o * j) o
     → T.object_step ob false 0 x ≡ T.element_step o S m (OfObject ob) start j
 unfolding T.element_step T.value_step T.element_place L.is_bool L.width
-offset_step o S m ob start j at x ea ex =
-    tested-object S m ob false 0 x ∙ ap (λ (i : ℕ). T.struct_tested S m (T.object_step ob false 0 i)) (ex ∙ ap (λ (i : ℕ). le m i o) ea)
+offset_step o S m ob start j x ex = tested-object S m ob false 0 x ∙ ap (λ (i : ℕ). T.struct_tested S m (T.object_step ob false 0 i)) ex
 
 offset-marked : (ob : Object) → E.unmarked (OfObject ob) ≡ false
 unfolding E.unmarked
 offset-marked ob = refl
 
 module _ (o d : ℕ) (S : Schema) (m : List ℕ) (ob : Object) (start n j : ℕ) (h : j < n)
-    (good : D.ElementsReadable o (D.ObjectReadable o d S m) S m (OfObject ob) start (n - j) j) (at x : ℕ) (ea : at ≡ start + o * j) (ex : x ≡ le m at o) where
-  pub offset_readable : D.StepReadable (D.ObjectReadable o d S m) S m (T.object_step ob false 0 x)
-  offset_readable =
-      element_readable o d S m (OfObject ob) start n j h good (T.object_step ob false 0 x) (offset_step o S m ob start j at x ea ex)
+    (good : D.ElementsReadable o (D.ObjectReadable o d S m) S m (OfObject ob) start (n - j) j) (x : ℕ) (ex : x ≡ le m (start + o * j) o) where
+  pub absent_turn : x ≡ 0 → (whole out₀ out out₁ : List ℕ) (p₀ p p₁ : ℕ) → Remaining out₀ p₀ whole out p (A.elements_at o d S m (OfObject ob) start (n - j) j) → Room out p
+      → Puts out p (bits_of 2 0) out₁ p₁ → Remaining out₀ p₀ whole out₁ p₁ (A.elements_at o d S m (OfObject ob) start (n - (j + 1)) (j + 1))
+  unfolding A.step_at
+  absent_turn e = elements_turn o d S m (OfObject ob) start n j h good St.Absent (object_none false 0 x ob e ∙ offset_step o S m ob start j x ex) (offset-marked ob)
 
-  pub offsets_turn : (whole out₀ out out₁ : List ℕ) (p₀ p p₁ : ℕ) → Remaining out₀ p₀ whole out p (A.elements_at o d S m (OfObject ob) start (n - j) j) → Room out p
-      → Puts out p (A.reference_at o d S m ob false 0 x) out₁ p₁
-      → Remaining out₀ p₀ whole out₁ p₁ (A.elements_at o d S m (OfObject ob) start (n - (j + 1)) (j + 1))
-  unfolding A.reference_at
-  offsets_turn whole out₀ out out₁ p₀ p p₁ inv g put =
-      elements_turn o d S m (OfObject ob) start n j h good (T.object_step ob false 0 x) (offset_step o S m ob start j at x ea ex) (offset-marked ob)
-      whole out₀ out out₁ p₀ p p₁ inv g put
+  module _ (some : x ≡ 0 → ⊥) where
+    leads : St.Object ob (ByOffset x) ≡ T.element_step o S m (OfObject ob) start j
+    unfolding T.place_of
+    leads = object_there false 0 x ob some (ByOffset x) refl ∙ offset_step o S m ob start j x ex
+
+    pub offset_readable : D.ObjectReadable o d S m ob (ByOffset x)
+    unfolding D.StepReadable
+    offset_readable = element_readable o d S m (OfObject ob) start n j h good (St.Object ob (ByOffset x)) leads
+
+    pub offset_turn : (whole out₀ out out₁ : List ℕ) (p₀ p p₁ : ℕ) → Remaining out₀ p₀ whole out p (A.elements_at o d S m (OfObject ob) start (n - j) j) → Room out p
+        → Puts out p (A.present_at o d S m ob (ByOffset x)) out₁ p₁
+        → Remaining out₀ p₀ whole out₁ p₁ (A.elements_at o d S m (OfObject ob) start (n - (j + 1)) (j + 1))
+    unfolding A.step_at A.present_at
+    offset_turn = elements_turn o d S m (OfObject ob) start n j h good (St.Object ob (ByOffset x)) leads (offset-marked ob)
 
 -- ---- a list of them
 module _ (o : ℕ) (S : Schema) (k : Kind) (ob : Object) (e : k ≡ OfObject ob) where
@@ -72,29 +80,31 @@ list_offsets o d S m i start n x k e ex out out₁ out₂ p q r g h ob ek l =
     list-elements o d S m i start n x k e ex out out₁ out₂ p q r g h (subst (λ (v : Kind). Puts out₁ q (A.elements_at o d S m v start n 0) out₂ r) (sym ek) l)
 
 -- ---- unions
-choice_step : (o : ℕ) (S : Schema) (m : List ℕ) (u start j at c x : ℕ) → at ≡ start + (2 + o) * j → c ≡ le m at 2 → x ≡ le m (at + 2) o
-    → T.union_step (Sc.cases_of S u) false 0 c x ≡ T.element_step o S m (OfUnion u) start j
-unfolding T.element_step T.value_step T.element_place L.is_bool L.width
-choice_step o S m u start j at c x ea ec ex =
+-- they stand in a run of w bytes each
+pub run_of_unions : (o w : ℕ) → w ≡ 2 + o → (start j n : ℕ) → j < n → (c : ℕ) → start + (2 + o) * n ≤ c → start + w * j + (2 + o) ≤ c
+run_of_unions o w e start j n h c l = rw e (run_inside (2 + o) start j n h c l)
+
+choice_of : (o : ℕ) (S : Schema) (m : List ℕ) (u w : ℕ) → w ≡ 2 + o → (start j c x : ℕ) → c ≡ le m (start + w * j) 2 → x ≡ le m (start + w * j + 2) o
+    → A.choice_step (Sc.cases_of S u) c (ByOffset x) ≡ T.element_step o S m (OfUnion u) start j
+unfolding A.choice_step T.union_step T.place_of T.element_step T.value_step T.element_place L.is_bool L.width
+choice_of o S m u w ew start j c x ec ex =
     tested-union S m (Sc.cases_of S u) false 0 c x
-    ∙ ap₂ (λ (i k : ℕ). T.struct_tested S m (T.union_step (Sc.cases_of S u) false 0 i k)) (ec ∙ ap (λ (i : ℕ). le m i 2) ea) (ex ∙ ap (λ (i : ℕ). le m (i + 2) o) ea)
+    ∙ ap₂ (λ (i k : ℕ). T.struct_tested S m (T.union_step (Sc.cases_of S u) false 0 i k)) (ec ∙ ap (λ (i : ℕ). le m (start + i * j) 2) ew) (ex ∙ ap (λ (i : ℕ). le m (start + i * j + 2) o) ew)
 
 choice-marked : (u : ℕ) → E.unmarked (OfUnion u) ≡ false
 unfolding E.unmarked
 choice-marked u = refl
 
 module _ (o d : ℕ) (S : Schema) (m : List ℕ) (u start n j : ℕ) (h : j < n) (good : D.ElementsReadable o (D.ObjectReadable o d S m) S m (OfUnion u) start (n - j) j)
-    (at c x : ℕ) (ea : at ≡ start + (2 + o) * j) (nc : Number m at 2 c) (ex : x ≡ le m (at + 2) o) where
-  pub chosen_readable : D.StepReadable (D.ObjectReadable o d S m) S m (T.union_step (Sc.cases_of S u) false 0 c x)
-  chosen_readable =
-      element_readable o d S m (OfUnion u) start n j h good (T.union_step (Sc.cases_of S u) false 0 c x) (choice_step o S m u start j at c x ea nc.is ex)
+    (w : ℕ) (ew : w ≡ 2 + o) (c x : ℕ) (nc : Number m (start + w * j) 2 c) (ex : x ≡ le m (start + w * j + 2) o) where
+  pub chosen_readable : D.StepReadable (D.ObjectReadable o d S m) S m (A.choice_step (Sc.cases_of S u) c (ByOffset x))
+  chosen_readable = element_readable o d S m (OfUnion u) start n j h good (A.choice_step (Sc.cases_of S u) c (ByOffset x)) (choice_of o S m u w ew start j c x nc.is ex)
 
   pub choices_turn : (whole out₀ out out₁ : List ℕ) (p₀ p p₁ : ℕ) → Remaining out₀ p₀ whole out p (A.elements_at o d S m (OfUnion u) start (n - j) j) → Room out p
-      → Puts out p (A.choice_at o d S m u false 0 c x) out₁ p₁ → Remaining out₀ p₀ whole out₁ p₁ (A.elements_at o d S m (OfUnion u) start (n - (j + 1)) (j + 1))
+      → Puts out p (A.choice_at o d S m u c (ByOffset x)) out₁ p₁ → Remaining out₀ p₀ whole out₁ p₁ (A.elements_at o d S m (OfUnion u) start (n - (j + 1)) (j + 1))
   unfolding A.choice_at
-  choices_turn whole out₀ out out₁ p₀ p p₁ inv g put =
-      elements_turn o d S m (OfUnion u) start n j h good (T.union_step (Sc.cases_of S u) false 0 c x) (choice_step o S m u start j at c x ea nc.is ex)
-      (choice-marked u) whole out₀ out out₁ p₀ p p₁ inv g put
+  choices_turn =
+      elements_turn o d S m (OfUnion u) start n j h good (A.choice_step (Sc.cases_of S u) c (ByOffset x)) (choice_of o S m u w ew start j c x nc.is ex) (choice-marked u)
 
 -- ---- a list of them
 union_is : (k : Kind) (u i : ℕ) → k ≡ OfUnion u → i ≡ u → k ≡ OfUnion i

@@ -2,19 +2,20 @@
 use mathlib.Core.Path.{◌≡◌, refl, sym, ap, ap₂, ◌∙◌, subst}
 use mathlib.Core.Bool.{Bool, true, false}
 use mathlib.Core.List.{List, [], ◌++◌}
-use Prim.Native.Nat.{ℕ, zero, suc, ◌+◌, ◌*◌, ◌%◌, ◌<◌, ◌≤◌}
+use Prim.Native.Nat.{ℕ, zero, suc, ◌+◌, ◌*◌, ◌/◌, ◌%◌, ◌<◌, ◌≤◌}
 use native.Mathlib.Omega.{arith}
 use native.Mathlib.Nat.{mul-zero, add-zero, mul-suc}
 use native.Mathlib.Numerals.{add-one}
 use lib.ListN.{length, get_or, take, drop, length-drop}
 use lib.Seq.{drop-cons, length-take-le}
-use Rattle.coding.specs.Bytes.{le}
+use Rattle.coding.specs.Bytes.{le, bit_at}
 use Rattle.coding.specs.Schema as Sc
 use Rattle.coding.specs.Schema.{Schema}
 use Rattle.coding.specs.Packed as P
 use Rattle.coding.specs.Structs.{flat_width}
 use Rattle.coding.specs.Layout as L
 use Rattle.coding.specs.Step as T
+use Rattle.coding.specs.Value as Tree
 use Rattle.coding.specs.Read as R
 use Rattle.coding.specs.Bits.{bits_of, bits}
 use Rattle.coding.specs.Sheet as E
@@ -23,16 +24,15 @@ use Rattle.coding.specs.declared.Flat.TheVariants as F
 use Rattle.coding.specs.declared.Kind.{Kind}
 use Rattle.coding.specs.declared.Kind.TheVariants.{OfFlat, OfObject, OfUnion}
 use Rattle.laws.specs.Sound.{FlatSound, FlatScalar, KindSound, NoStruct}
-use Rattle.schema.specs.Kinds.{flat_integer, integer_width}
 use Rattle.schema.specs.Directory.{Accepted, accepted_sound}
 use Rattle.bitio.specs.Puts.{Room, Puts}
-use Rattle.bitio.specs.PutsLaws.{puts_none, puts-same}
+use Rattle.bitio.specs.PutsLaws.{puts-same}
 use Rattle.sheet_values.specs.Marks as K
 use Rattle.sheet_lists.specs.Elements as Es
 use Rattle.sheet_walk.specs.MessageBits as A
 use Rattle.sheet_walk.specs.Readable as D
 use Rattle.sheet_walk.proofs.Flats.{flat-bits}
-use Rattle.sheet_walk.proofs.Parts.{integer_kind, elements_cons, list-elements}
+use Rattle.sheet_walk.proofs.Parts.{elements_cons, list-elements}
 
 -- ---- bytes
 le_byte : (m : List ℕ) (at : ℕ) → le m at 1 ≡ get_or m at 0
@@ -49,64 +49,49 @@ bytes_same m (suc n) at h =
     ∙ ap₂ (λ (x y : List ℕ). x ++ y) (ap (bits_of 8) (sym (le_byte m at)))
     (ap (λ (x : ℕ). bits (take n (drop x m))) z ∙ bytes_same m n (at + 1) (omega arith))
 
-byte-size : (o : ℕ) (S : Schema) (k : Kind) (start n c : ℕ) → integer_width k ≡ 1 → start + T.elements_size o S k n ≤ c → start + n ≤ c
-unfolding integer_width flat_integer T.elements_size L.is_bool L.flat_is_bool L.width flat_width
-byte-size o S (OfFlat F.Boolean) start n c e h = absurd (omega arith)
-byte-size o S (OfFlat (F.Integer s w)) start n c e h =
-    let g : start + 1 * n ≤ c = subst (λ (v : ℕ). start + v * n ≤ c) e h in omega arith
-byte-size o S (OfFlat (F.Float w)) start n c e h = absurd (omega arith)
-byte-size o S (OfFlat (F.Enumerated k)) start n c e h = absurd (omega arith)
-byte-size o S (OfFlat (F.Struct i)) start n c e h = absurd (omega arith)
-byte-size o S (OfObject ob) start n c e h = absurd (omega arith)
-byte-size o S (OfUnion u) start n c e h = absurd (omega arith)
+-- ---- bools and numbers
+bools-same : (o d : ℕ) (S : Schema) (m : List ℕ) (start n i : ℕ) → Es.bools_at m start n i ≡ A.elements_at o d S m (OfFlat F.Boolean) start n i
+unfolding Es.bools_at Es.bool_at A.elements_at E.elements_bits R.elements_read E.element_bits E.unmarked E.flat_unmarked E.body_bits E.flat_bits R.step_read T.element_step T.struct_tested T.value_step T.flat_step T.element_place L.is_bool L.flat_is_bool Tree.as_number
+bools-same o d S m start zero i = refl
+bools-same o d S m start (suc n) i = ap (λ (l : List ℕ). bits_of 1 (bit_at m (start + i / 8) (i % 8)) ++ l) (bools-same o d S m start n (i + 1))
 
+numbers-same : (o d : ℕ) (S : Schema) (m : List ℕ) (s : Bool) (w start n i : ℕ)
+    → Es.numbers_at m w n (start + w * i) ≡ A.elements_at o d S m (OfFlat (F.Integer s w)) start n i
+unfolding Es.numbers_at A.elements_at E.elements_bits R.elements_read E.element_bits E.unmarked E.flat_unmarked E.body_bits E.flat_bits R.step_read T.element_step T.struct_tested T.value_step T.flat_step T.element_place L.is_bool L.flat_is_bool Tree.as_number L.width flat_width
+numbers-same o d S m s w start zero i = refl
+numbers-same o d S m s w start (suc n) i =
+    let z : w * (i + 1) ≡ w * i + w = ap (λ (x : ℕ). w * x) (add-one i) ∙ mul-suc w i in
+    let y : start + w * i + w ≡ start + w * (i + 1) = omega arith in
+    ap (λ (l : List ℕ). bits_of (8 * w) (le m (start + w * i) w) ++ l) (ap (Es.numbers_at m w n) y ∙ numbers-same o d S m s w start n (i + 1))
+
+from_zero : (w start : ℕ) → start ≡ start + w * 0
+from_zero w start = sym (ap (λ (x : ℕ). start + x) (mul-zero w) ∙ add-zero start)
+
+-- a list of bytes is put as bytes are
 pub list_bytes : (o d : ℕ) (S : Schema) (m : List ℕ) (i start n : ℕ) → start + T.elements_size o S (Sc.element_of S i) n ≤ length m
-    → (k : Kind) → k ≡ Sc.element_of S i → (w : ℕ) → w ≡ integer_width k → w ≡ 1 → (out out₁ : List ℕ) (p q : ℕ) → Puts out p (E.blob_bits (take n (drop start m))) out₁ q
+    → (k : Kind) → k ≡ Sc.element_of S i → (f : Flat) → k ≡ OfFlat f → (s : Bool) (w : ℕ) → f ≡ F.Integer s w → w ≡ 1 → (out out₁ : List ℕ) (p q : ℕ) → Puts out p (E.blob_bits (take n (drop start m))) out₁ q
     → Puts out p (A.list_at o d S m (Sc.element_of S i) start n) out₁ q
-unfolding E.blob_bits A.list_at
-list_bytes o d S m i start n fits k e w ew e1 out out₁ p q h = puts-same out out₁ p q (E.blob_bits (take n (drop start m))) (A.list_at o d S m (Sc.element_of S i) start n) same h
+unfolding E.blob_bits A.list_at T.elements_size L.is_bool L.flat_is_bool L.width flat_width
+list_bytes o d S m i start n fits k e f ek s w ef ew out out₁ p q h = puts-same out out₁ p q (E.blob_bits (take n (drop start m))) (A.list_at o d S m (Sc.element_of S i) start n) same h
   where
-    one : integer_width (Sc.element_of S i) ≡ 1
-    one = ap integer_width (sym e) ∙ sym ew ∙ e1
+    one : Sc.element_of S i ≡ OfFlat (F.Integer s 1)
+    one = sym e ∙ ek ∙ ap OfFlat (ef ∙ ap (F.Integer s) ew)
 
     inside : start + n ≤ length m
-    inside = byte-size o S (Sc.element_of S i) start n (length m) one fits
+    inside = let z : start + 1 * n ≤ length m = subst (λ (v : Kind). start + T.elements_size o S v n ≤ length m) one fits in omega arith
 
     long : length (take n (drop start m)) ≡ n
     long = length-take-le n (drop start m) (omega (arith, length-drop start m, inside))
 
     run : bits (take n (drop start m)) ≡ A.elements_at o d S m (Sc.element_of S i) start n 0
     run =
-        bytes_same m n start inside ∙ ap (λ (v : ℕ). Es.numbers_at m v n start) (sym one)
-        ∙ integer_kind o d S m (Sc.element_of S i) start n (omega (arith, one))
+        bytes_same m n start inside ∙ ap (Es.numbers_at m 1 n) (from_zero 1 start) ∙ numbers-same o d S m s 1 start n 0
+        ∙ ap (λ (v : Kind). A.elements_at o d S m v start n 0) (sym one)
 
     same : E.blob_bits (take n (drop start m)) ≡ A.list_at o d S m (Sc.element_of S i) start n
     same = ap₂ (λ (x : ℕ) (l : List ℕ). bits_of 32 x ++ l) long run
 
 -- ---- floats and enums
-module _ (m : List ℕ) (f : Flat) (n at : ℕ) (out : List ℕ) (p : ℕ) where
-  module _ (g : Room out p) where
-    pub flats_boolean : f ≡ F.Boolean → Puts out p (A.flats_at m f n at) out p
-    unfolding A.flats_at
-    flats_boolean e = rw e (puts_none out p g.most)
-
-    pub flats_integer : (s : Bool) (w : ℕ) → f ≡ F.Integer s w → Puts out p (A.flats_at m f n at) out p
-    unfolding A.flats_at
-    flats_integer s w e = rw e (puts_none out p g.most)
-
-    pub flats-struct : (i : ℕ) → f ≡ F.Struct i → Puts out p (A.flats_at m f n at) out p
-    unfolding A.flats_at
-    flats-struct i e = rw e (puts_none out p g.most)
-
-  module _ (out₁ : List ℕ) (q : ℕ) where
-    pub flats_float : (w : ℕ) → f ≡ F.Float w → Puts out p (Es.floats_at m w n at) out₁ q → Puts out p (A.flats_at m f n at) out₁ q
-    unfolding A.flats_at
-    flats_float w e h = rw e h
-
-    pub flats-enum : (k : ℕ) → f ≡ F.Enumerated k → Puts out p (Es.enums_at m k n at) out₁ q → Puts out p (A.flats_at m f n at) out₁ q
-    unfolding A.flats_at
-    flats-enum k e h = rw e h
-
 module _ (o d : ℕ) (S : Schema) (m : List ℕ) where
   flats_cons : (f : Flat) (start n i : ℕ) → E.unmarked (OfFlat f) ≡ false → D.ElementsReadable o (D.ObjectReadable o d S m) S m (OfFlat f) start (suc n) i
       → A.elements_at o d S m (OfFlat f) start (suc n) i
@@ -146,18 +131,16 @@ module _ (o d : ℕ) (S : Schema) (m : List ℕ) where
       (ap (Es.enums_at m k n) (further 1 start i) ∙ enums-same k start n (i + 1) (flats-rest (F.Enumerated k) start n i h))
       ∙ sym (flats_cons (F.Enumerated k) start n i refl h)
 
-  -- a flat element that is no bool and no integer is a float or an enum
-  flats-same : (f : Flat) (start n : ℕ) → FlatSound 0 f → L.is_bool (OfFlat f) ≡ false → integer_width (OfFlat f) ≤ 0
-      → D.ElementsReadable o (D.ObjectReadable o d S m) S m (OfFlat f) start n 0 → A.flats_at m f n start ≡ A.elements_at o d S m (OfFlat f) start n 0
-  unfolding L.is_bool L.flat_is_bool integer_width flat_integer A.flats_at
-  flats-same F.Boolean start n l e h good = let z : ◌≡◌ {A = ℕ} 0 1 = cc in absurd (omega arith)
-  flats-same (F.Integer s w) start n l e h good = absurd (let a = l.0 in omega arith)
-  flats-same (F.Float w) start n l e h good =
-      let z : start ≡ start + w * 0 = sym (ap (λ (x : ℕ). start + x) (mul-zero w) ∙ add-zero start) in ap (Es.floats_at m w n) z ∙ floats_same w start n 0 good
-  flats-same (F.Enumerated k) start n l e h good = let z : start ≡ start + 1 * 0 = omega arith in ap (Es.enums_at m k n) z ∙ enums-same k start n 0 good
-  flats-same (F.Struct i) start n l e h good = absurd (omega arith)
+  -- a flat element is no struct
+  flats-same : (f : Flat) (start n : ℕ) → FlatSound 0 f → D.ElementsReadable o (D.ObjectReadable o d S m) S m (OfFlat f) start n 0
+      → A.flats_at m f n start ≡ A.elements_at o d S m (OfFlat f) start n 0
+  unfolding A.flats_at
+  flats-same F.Boolean start n l good = bools-same o d S m start n 0
+  flats-same (F.Integer s w) start n l good = ap (Es.numbers_at m w n) (from_zero w start) ∙ numbers-same o d S m s w start n 0
+  flats-same (F.Float w) start n l good = ap (Es.floats_at m w n) (from_zero w start) ∙ floats_same w start n 0 good
+  flats-same (F.Enumerated k) start n l good = ap (Es.enums_at m k n) (from_zero 1 start) ∙ enums-same k start n 0 good
+  flats-same (F.Struct i) start n l good = absurd (omega arith)
 
--- a flat element is no struct
 scalar_sound : (c : ℕ) (f : Flat) → FlatSound c f → FlatScalar f → FlatSound 0 f
 scalar_sound c F.Boolean h s = tt
 scalar_sound c (F.Integer g w) h s = h
@@ -172,12 +155,11 @@ module _ (b dir : List ℕ) (a : Accepted b dir) (i : ℕ) (k : Kind) (e : k ≡
       scalar_sound (length (P.parse b).structs) f (subst (KindSound (P.parse b)) (sym e ∙ ek) l.kind) (subst NoStruct (sym e ∙ ek) l.scalar)
 
   pub list_flats : (o d : ℕ) (m : List ℕ) (start n x : ℕ) → x ≡ n → (out out₁ out₂ : List ℕ) (p q r : ℕ) → Room out p → Puts out p (bits_of 32 x) out₁ q
-      → D.ElementsReadable o (D.ObjectReadable o d (P.parse b) m) (P.parse b) m (Sc.element_of (P.parse b) i) start n 0 → (t : Bool) → t ≡ L.is_bool k → t ≡ false
-      → (w : ℕ) → w ≡ integer_width k → w ≤ 0 → Puts out₁ q (A.flats_at m f n start) out₂ r
+      → D.ElementsReadable o (D.ObjectReadable o d (P.parse b) m) (P.parse b) m (Sc.element_of (P.parse b) i) start n 0 → Puts out₁ q (A.flats_at m f n start) out₂ r
       → Puts out p (A.list_at o d (P.parse b) m (Sc.element_of (P.parse b) i) start n) out₂ r
-  list_flats o d m start n x ex out out₁ out₂ p q r g h good t et ft w ew lw put =
+  list_flats o d m start n x ex out out₁ out₂ p q r g h good put =
       list-elements o d (P.parse b) m i start n x k e ex out out₁ out₂ p q r g h
       (puts-same out₁ out₂ q r (A.flats_at m f n start) (A.elements_at o d (P.parse b) m k start n 0)
-      (flats-same o d (P.parse b) m f start n element-flat (ap L.is_bool (sym ek) ∙ sym et ∙ ft) (subst (λ (v : ℕ). v ≤ 0) (ew ∙ ap integer_width ek) lw)
+      (flats-same o d (P.parse b) m f start n element-flat
       (subst (λ (v : Kind). D.ElementsReadable o (D.ObjectReadable o d (P.parse b) m) (P.parse b) m v start n 0) (sym e ∙ ek) good)
       ∙ ap (λ (v : Kind). A.elements_at o d (P.parse b) m v start n 0) (sym ek)) put)

@@ -5,7 +5,7 @@ use mathlib.Core.List.{List}
 use Prim.Native.Nat.{ℕ, ◌+◌, ◌<◌, ◌≤◌}
 use lib.ListN.{length}
 use lib.Dec.{eqb, leb}
-use borrow.Author.Tests.{ne_eqb}
+use borrow.Author.Tests.{eq-eqb, ne_eqb, le-leb, lt-leb}
 use Rattle.coding.specs.Lists.{pick}
 use Rattle.coding.specs.Bytes.{le}
 use Rattle.coding.specs.Schema as Sc
@@ -17,73 +17,68 @@ use Rattle.coding.specs.declared.Object.{Object}
 use Rattle.coding.specs.declared.Kind.{Kind}
 use Rattle.coding.specs.declared.Kind.TheVariants.{OfObject, OfUnion}
 use Rattle.coding.specs.declared.Place.{Place}
-use Rattle.coding.specs.declared.Place.TheVariants.{ByOffset}
 use Rattle.coding.specs.declared.Step.{Step}
 use Rattle.coding.specs.declared.Step.TheVariants as St
-use Rattle.message_step.proofs.StepCases as C
 use Rattle.bitio.specs.Puts.{Room, Puts}
 use Rattle.sheet_values.specs.Marks as K
 use Rattle.sheet_walk.specs.MessageBits as A
 use Rattle.sheet_walk.specs.Readable as D
-use Rattle.sheet_walk.proofs.Objects.{step_absent, step-object, step-unknown, step-choice, object_readable, choice_readable}
+use Rattle.bitio.specs.PutsLaws.{puts_then}
+use Rattle.sheet_walk.proofs.Objects.{step_absent, step-unknown, step-choice, choice_readable}
 
 -- ---- a reference
-object_there : (inplace : Bool) (tail x : ℕ) (ob : Object) → (x ≡ 0 → ⊥) → (p : Place) → p ≡ T.place_of inplace tail x → St.Object ob p ≡ T.object_step ob inplace tail x
+pub object_none : (inplace : Bool) (tail x : ℕ) (ob : Object) → x ≡ 0 → St.Absent ≡ T.object_step ob inplace tail x
+unfolding T.object_step
+object_none inplace tail x ob e = simp (eq-eqb _ _ e)
+
+pub object_there : (inplace : Bool) (tail x : ℕ) (ob : Object) → (x ≡ 0 → ⊥) → (p : Place) → p ≡ T.place_of inplace tail x → St.Object ob p ≡ T.object_step ob inplace tail x
 unfolding T.object_step
 object_there inplace tail x ob e p ep = simp (ne_eqb _ _ e) (ap (St.Object ob) ep)
 
-module _ (o d : ℕ) (S : Schema) (m : List ℕ) (ob : Object) (inplace : Bool) (tail x : ℕ) (out out₁ : List ℕ) (p q : ℕ) where
-  pub reference_none : x ≡ 0 → Puts out p (bits_of 2 0) out₁ q → Puts out p (A.reference_at o d S m ob inplace tail x) out₁ q
-  unfolding A.reference_at
-  reference_none e h = step_absent o d S m (OfObject ob) out out₁ p q (T.object_step ob inplace tail x) (sym (C.object_none inplace tail x ob e)) h
+pub present_puts : (o d : ℕ) (S : Schema) (m : List ℕ) (ob : Object) (place : Place) (out out₁ out₂ : List ℕ) (p q r : ℕ) → Room out p → Puts out p (bits_of 2 1) out₁ q
+    → Puts out₁ q (A.object_at o d S m ob place) out₂ r → Puts out p (A.present_at o d S m ob place) out₂ r
+unfolding A.present_at
+present_puts o d S m ob place out out₁ out₂ p q r g a b = puts_then out out₁ out₂ p q r (bits_of 2 1) (A.object_at o d S m ob place) g.short a b
 
-  pub reference_there : (x ≡ 0 → ⊥) → (place : Place) → place ≡ T.place_of inplace tail x → Room out p → (out₂ : List ℕ) (r : ℕ) → Puts out p (bits_of 2 1) out₁ q
-      → Puts out₁ q (A.object_at o d S m ob place) out₂ r → Puts out p (A.reference_at o d S m ob inplace tail x) out₂ r
-  unfolding A.reference_at
-  reference_there e place ep g out₂ r a b =
-      step-object o d S m (OfObject ob) out out₁ p q (T.object_step ob inplace tail x) g out₂ r ob place (sym (object_there inplace tail x ob e place ep)) a b
+-- ---- a union's choice c, which leads to a place
+module _ (cases : List Object) (c : ℕ) (place : Place) where
+  no_choice : c ≡ 0 → A.choice_step cases c place ≡ St.Absent
+  unfolding A.choice_step
+  no_choice e = simp (eq-eqb _ _ e)
 
-pub reference_readable : (o d : ℕ) (S : Schema) (m : List ℕ) (ob : Object) (inplace : Bool) (tail x : ℕ) (place : Place)
-    → D.StepReadable (D.ObjectReadable o d S m) S m (T.object_step ob inplace tail x) → (x ≡ 0 → ⊥) → place ≡ T.place_of inplace tail x → D.ObjectReadable o d S m ob place
-reference_readable o d S m ob inplace tail x place h e ep =
-    object_readable o d S m (T.object_step ob inplace tail x) h ob place (sym (object_there inplace tail x ob e place ep))
+  module _ (e : c ≡ 0 → ⊥) (n : ℕ) (en : n ≡ length cases) where
+    unknown_choice : n < c → A.choice_step cases c place ≡ St.Unknown c
+    unfolding A.choice_step
+    unknown_choice l = simp (ne_eqb _ _ e, ← en, lt-leb _ _ l)
 
--- ---- an element, by its offset
-pub element_there : (o d : ℕ) (S : Schema) (m : List ℕ) (ob : Object) (x : ℕ) (out out₁ : List ℕ) (p q : ℕ) → (x ≡ 0 → ⊥) → Room out p → (out₂ : List ℕ) (r : ℕ)
-    → Puts out p (bits_of 2 1) out₁ q → Puts out₁ q (A.object_at o d S m ob (ByOffset x)) out₂ r → Puts out p (A.reference_at o d S m ob false 0 x) out₂ r
-element_there o d S m ob x out out₁ p q e = reference_there o d S m ob false 0 x out out₁ p q e (ByOffset x) (unfold T.place_of in refl)
+    known_choice : c ≤ n → A.choice_step cases c place ≡ St.Choice c (Sc.case_of cases c) place
+    unfolding A.choice_step
+    known_choice l = simp (ne_eqb _ _ e, ← en, le-leb _ _ l)
 
-pub element_readable : (o d : ℕ) (S : Schema) (m : List ℕ) (ob : Object) (x : ℕ)
-    → D.StepReadable (D.ObjectReadable o d S m) S m (T.object_step ob false 0 x) → (x ≡ 0 → ⊥) → D.ObjectReadable o d S m ob (ByOffset x)
-element_readable o d S m ob x h e = reference_readable o d S m ob false 0 x (ByOffset x) h e (unfold T.place_of in refl)
-
--- ---- a union
-module _ (o d : ℕ) (S : Schema) (m : List ℕ) (u : ℕ) (inplace : Bool) (tail c x : ℕ) where
-  abbrev chosen : Step
-  chosen = T.union_step (Sc.cases_of S u) inplace tail c x
-
+module _ (o d : ℕ) (S : Schema) (m : List ℕ) (u c : ℕ) (place : Place) where
   module _ (out out₁ : List ℕ) (p q : ℕ) where
-    pub choice_none : c ≡ 0 → Puts out p (bits_of 2 0) out₁ q → Puts out p (A.choice_at o d S m u inplace tail c x) out₁ q
+    pub choice_none : c ≡ 0 → Puts out p (bits_of 2 0) out₁ q → Puts out p (A.choice_at o d S m u c place) out₁ q
     unfolding A.choice_at
-    choice_none e h = step_absent o d S m (OfUnion u) out out₁ p q chosen (sym (C.union_none inplace tail x (Sc.cases_of S u) c e)) h
+    choice_none e h = step_absent o d S m (OfUnion u) out out₁ p q (A.choice_step (Sc.cases_of S u) c place) (no_choice (Sc.cases_of S u) c place e) h
 
     pub choice-unknown : (c ≡ 0 → ⊥) → (n y : ℕ) → n ≡ length (Sc.cases_of S u) → n < c → y ≡ c → Puts out p (K.marked 2 16 y) out₁ q
-        → Puts out p (A.choice_at o d S m u inplace tail c x) out₁ q
+        → Puts out p (A.choice_at o d S m u c place) out₁ q
     unfolding A.choice_at E.unknown_width
     choice-unknown e n y en l ey h =
-        step-unknown o d S m (OfUnion u) out out₁ p q chosen c y 16 (sym (C.union-unknown inplace tail x (Sc.cases_of S u) c e c n refl en l)) refl ey h
+        step-unknown o d S m (OfUnion u) out out₁ p q (A.choice_step (Sc.cases_of S u) c place) c y 16 (unknown_choice (Sc.cases_of S u) c place e n en l) refl ey h
 
-  module _ (e : c ≡ 0 → ⊥) (n : ℕ) (en : n ≡ length (Sc.cases_of S u)) (l : c ≤ n) (ob : Object) (eo : ob ≡ Sc.case_of (Sc.cases_of S u) c) (place : Place)
-      (ep : place ≡ T.place_of inplace tail x) where
+  module _ (e : c ≡ 0 → ⊥) (n : ℕ) (en : n ≡ length (Sc.cases_of S u)) (l : c ≤ n) (ob : Object) (eo : ob ≡ Sc.case_of (Sc.cases_of S u) c) where
+    known : A.choice_step (Sc.cases_of S u) c place ≡ St.Choice c ob place
+    known = known_choice (Sc.cases_of S u) c place e n en l ∙ ap (λ (x : Object). St.Choice c x place) (sym eo)
+
     pub choice-known : (out out₁ : List ℕ) (p q y : ℕ) → Room out p → (out₂ : List ℕ) (r : ℕ) → y ≡ c → Puts out p (K.marked 1 16 y) out₁ q
-        → Puts out₁ q (A.object_at o d S m ob place) out₂ r → Puts out p (A.choice_at o d S m u inplace tail c x) out₂ r
+        → Puts out₁ q (A.object_at o d S m ob place) out₂ r → Puts out p (A.choice_at o d S m u c place) out₂ r
     unfolding A.choice_at
     choice-known out out₁ p q y g out₂ r ey a b =
-        step-choice o d S m (OfUnion u) out out₁ p q chosen g out₂ r c y ob place (sym (C.union-known inplace tail x (Sc.cases_of S u) c e c n refl en l ob eo place ep)) ey a b
+        step-choice o d S m (OfUnion u) out out₁ p q (A.choice_step (Sc.cases_of S u) c place) g out₂ r c y ob place known ey a b
 
-    pub case_readable : D.StepReadable (D.ObjectReadable o d S m) S m (T.union_step (Sc.cases_of S u) inplace tail c x) → D.ObjectReadable o d S m ob place
-    case_readable h =
-        choice_readable o d S m chosen h c ob place (sym (C.union-known inplace tail x (Sc.cases_of S u) c e c n refl en l ob eo place ep))
+    pub case_readable : D.StepReadable (D.ObjectReadable o d S m) S m (A.choice_step (Sc.cases_of S u) c place) → D.ObjectReadable o d S m ob place
+    case_readable h = choice_readable o d S m (A.choice_step (Sc.cases_of S u) c place) h c ob place known
 
 -- ---- a reference and a choice find no struct
 pub tested-object : (S : Schema) (m : List ℕ) (ob : Object) (inplace : Bool) (tail x : ℕ)

@@ -8,7 +8,9 @@ use Rattle.coding.specs.Step.{member_step, elements_size}
 use Rattle.coding.specs.declared.Flat.{Flat}
 use Rattle.coding.specs.declared.Object.{Object}
 use Rattle.coding.specs.declared.Kind.{Kind}
+use Rattle.coding.specs.declared.Member.{Member}
 use Rattle.coding.specs.declared.Cursor.{Cursor}
+use Rattle.coding.specs.declared.Placement.{Placement}
 use Rattle.coding.specs.declared.Place.{Place}
 use Rattle.coding.specs.declared.Step.{Step}
 use Rattle.sheet_walk.specs.MessageBits as A
@@ -27,17 +29,17 @@ whole_bits b m i at = A.whole_at (parse b) m i at
 abbrev pub flat_bits : List ℕ → List ℕ → Flat → Bool → ℕ → ℕ → List ℕ
 flat_bits b m k none at bit = A.flat_at (parse b) m k none at bit
 
-abbrev pub member_bits : List ℕ → List ℕ → Kind → Bool → Bool → ℕ → ℕ → List ℕ
-member_bits b m k none here at bit = A.member_at (parse b) m k none here at bit
+abbrev pub placed_bits : List ℕ → List ℕ → ℕ → ℕ → Placement → Member → List ℕ
+placed_bits b m start n p r = A.placed_at (parse b) m start n p r
 
 abbrev pub lead_bits : ℕ → ℕ → List ℕ → List ℕ → ℕ → ℕ → ℕ → Cursor → List ℕ
 lead_bits o d b m at start n c = A.step_at o d (parse b) m (member_at b at).kind (member_step o (parse b) m start n c (member_at b at))
 
-abbrev pub reference_bits : ℕ → ℕ → List ℕ → List ℕ → Object → Bool → ℕ → ℕ → List ℕ
-reference_bits o d b m ob inplace tail x = A.reference_at o d (parse b) m ob inplace tail x
+abbrev pub present_bits : ℕ → ℕ → List ℕ → List ℕ → Object → Place → List ℕ
+present_bits o d b m ob p = A.present_at o d (parse b) m ob p
 
-abbrev pub choice_bits : ℕ → ℕ → List ℕ → List ℕ → ℕ → Bool → ℕ → ℕ → ℕ → List ℕ
-choice_bits o d b m u inplace tail c x = A.choice_at o d (parse b) m u inplace tail c x
+abbrev pub choice_bits : ℕ → ℕ → List ℕ → List ℕ → ℕ → ℕ → Place → List ℕ
+choice_bits o d b m u c p = A.choice_at o d (parse b) m u c p
 
 abbrev pub object_bits : ℕ → ℕ → List ℕ → List ℕ → Object → Place → List ℕ
 object_bits o d b m ob p = A.object_at o d (parse b) m ob p

@@ -1,18 +1,18 @@
 -- The sheet's bits of what stands in a message: encode of read, part by part, as the code goes over it.
 -- `o` is the width of an offset in bytes.
-use Rattle.std.specs.Prelude.{ℕ, ◌+◌, ◌-◌, ◌*◌, Bool, true, List, [], ◌++◌, get_or, leb, ltb, eqb}
+use Rattle.std.specs.Prelude.{ℕ, ◌+◌, ◌*◌, Bool, true, Option, Some, None, List, [], ◌++◌, length, get_or, leb, ltb, eqb}
 use Rattle.coding.specs.Lists.{pick}
 use Rattle.coding.specs.Bytes.{le, bit_at}
-use Rattle.coding.specs.Schema.{Schema, cases_of}
+use Rattle.coding.specs.Schema.{Schema, cases_of, case_of}
 use Rattle.coding.specs.Packed.{width_of}
 use Rattle.coding.specs.Structs.{struct_ok}
 use Rattle.coding.specs.Bits.{bits_of}
-use Rattle.coding.specs.Layout.{bit_byte, bit_index, after_bit}
-use Rattle.sheet_values.specs.Marks.{marked, enum_at, float_at, plain_at, blob_at}
-use Rattle.sheet_lists.specs.Elements.{floats_at, enums_at}
+use Rattle.coding.specs.Layout.{bit_byte, bit_index, after_bit, has_flag}
+use Rattle.sheet_values.specs.Marks.{marked, enum_at, float_at, plain_at}
+use Rattle.sheet_lists.specs.Elements.{bools_at, numbers_at, floats_at, enums_at}
 use Rattle.coding.specs.Read as R
 use Rattle.coding.specs.Sheet as E
-use Rattle.coding.specs.Step.{field_step, place_of, object_step, union_step}
+use Rattle.coding.specs.Step.{field_step}
 use Rattle.coding.specs.declared.Flat.{Flat}
 use Rattle.coding.specs.declared.Flat.TheVariants as F
 use Rattle.coding.specs.declared.Object.{Object}
@@ -20,10 +20,15 @@ use Rattle.coding.specs.declared.Kind.{Kind}
 use Rattle.coding.specs.declared.Kind.TheVariants.{OfFlat, OfObject, OfUnion}
 use Rattle.coding.specs.declared.Member.{Member}
 use Rattle.coding.specs.declared.Cursor.{Cursor}
+use Rattle.coding.specs.declared.Placement.{Placement}
 use Rattle.coding.specs.declared.Place.{Place}
 use Rattle.coding.specs.declared.Step.{Step}
 use Rattle.coding.specs.declared.Step.TheVariants as St
-use Rattle.sheet_walk.specs.Readable.{start_of, length_of}
+use Rattle.message_step.specs.Lead.{reach_of}
+use Rattle.message_step.specs.declared.Reach.{Reach}
+use Rattle.message_step.specs.declared.Reach.TheVariants.{Cut, Past, Here}
+use Rattle.sheet_walk.specs.declared.Code.{Code}
+use Rattle.sheet_walk.specs.declared.Code.TheVariants.{Number, Boolean, Float, Enumerated}
 
 -- ---- structs
 unfoldable pub struct_at : Schema → List ℕ → ℕ → ℕ → List ℕ
@@ -96,26 +101,35 @@ value_at S m (OfObject ob) none at bit = []
 value_at S m (OfUnion u) none at bit = []
 
 -- the same, if it is there
-unfoldable pub member_at : Schema → List ℕ → Kind → Bool → Bool → ℕ → ℕ → List ℕ
-member_at S m k none here at bit = pick here (value_at S m k none at bit) (bits_of 2 0)
+unfoldable pub member_at : Schema → List ℕ → Kind → Bool → Reach → ℕ → ℕ → List ℕ
+member_at S m k none Cut at bit = bits_of 2 0
+member_at S m k none Past at bit = bits_of 2 0
+member_at S m k none Here at bit = value_at S m k none at bit
 
--- a reference or, in place, a length x
-unfoldable pub reference_at : ℕ → ℕ → Schema → List ℕ → Object → Bool → ℕ → ℕ → List ℕ
-reference_at o d S m ob inplace tail x = step_at o d S m (OfObject ob) (object_step ob inplace tail x)
+-- a member by its placement in a fixed part that has n bytes from `start`
+unfoldable pub placed_at : Schema → List ℕ → ℕ → ℕ → Placement → Member → List ℕ
+placed_at S m start n p r =
+    member_at S m r.kind r.optional (reach_of m start n p (has_flag r)) (start + p.value.at) p.value.bit
 
--- choice c of union u
-unfoldable pub choice_at : ℕ → ℕ → Schema → List ℕ → ℕ → Bool → ℕ → ℕ → ℕ → List ℕ
-choice_at o d S m u inplace tail c x = step_at o d S m (OfUnion u) (union_step (cases_of S u) inplace tail c x)
+-- an object at a place, with its mark
+unfoldable pub present_at : ℕ → ℕ → Schema → List ℕ → Object → Place → List ℕ
+present_at o d S m ob p = bits_of 2 1 ++ object_at o d S m ob p
 
--- a text or bytes, by its reference or, in place, its length x
-unfoldable pub blob_reference_at : ℕ → List ℕ → Object → Bool → ℕ → ℕ → List ℕ
-blob_reference_at o m ob inplace tail x =
-    pick (eqb x 0) (bits_of 2 0) (blob_at m (start_of o ob (place_of inplace tail x)) (length_of o m (place_of inplace tail x)))
+-- choice c of a union's cases, which leads to a place
+unfoldable pub choice_step : List Object → ℕ → Place → Step
+choice_step cases c p = pick (eqb c 0) St.Absent (pick (leb c (length cases)) (St.Choice c (case_of cases c) p) (St.Unknown c))
+
+unfoldable pub choice_at : ℕ → ℕ → Schema → List ℕ → ℕ → ℕ → Place → List ℕ
+choice_at o d S m u c p = step_at o d S m (OfUnion u) (choice_step (cases_of S u) c p)
 
 -- ---- members by their records, where the cursor stands in a fixed part that has n bytes from `start`
 -- where an optional integer stands behind its flag; at the fixed part's end, if the flag says that there is none
 unfoldable pub optional_end : List ℕ → ℕ → ℕ → Cursor → ℕ
 optional_end m start n c = pick (leb n (bit_byte c)) n (pick (eqb (bit_at m (start + bit_byte c) (bit_index c)) 1) (after_bit c).end n)
+
+-- where a number stands, if it is optional behind its flag
+unfoldable pub number_end : List ℕ → Bool → ℕ → ℕ → Cursor → ℕ
+number_end m flagged start n c = pick flagged (optional_end m start n c) c.end
 
 -- a bool that is not optional
 unfoldable pub bool_at : List ℕ → ℕ → ℕ → Cursor → List ℕ
@@ -129,34 +143,25 @@ enumerated_at m k start n c = pick (leb n c.end) (bits_of 2 0) (enum_at k (get_o
 unfoldable pub optional_float_at : List ℕ → ℕ → ℕ → ℕ → Cursor → List ℕ
 optional_float_at m w start n c = pick (leb (c.end + w) n) (float_at true w (le m (start + c.end) w)) (bits_of 2 0)
 
--- the code of an optional bool, integer or float of kind k
-unfoldable pub optional_code : ℕ → ℕ
-optional_code k = pick (eqb k 0) 0 (pick (ltb k 9) (16 + width_of k) (48 + width_of k))
+-- the code of an optional bool, integer or float of kind k; a bool has none
+unfoldable pub optional_code : ℕ → Option Code
+optional_code k = pick (eqb k 0) None (pick (ltb k 9) (Some (Number true (width_of k))) (Some (Float (width_of k))))
 
--- by the code q: a number of q bytes, an optional integer of q - 16 bytes, a bool, an optional float of q - 48 bytes, an enum
--- of q - 64 values
-unfoldable pub coded_width : ℕ → ℕ
-coded_width q = pick (ltb q 16) q (q - 16)
-
-unfoldable pub coded_end : List ℕ → ℕ → ℕ → ℕ → Cursor → ℕ
-coded_end m q start n c = pick (ltb q 16) c.end (optional_end m start n c)
-
-unfoldable pub other_at : List ℕ → ℕ → ℕ → ℕ → Cursor → List ℕ
-other_at m q start n c =
-    pick (leb q 32) (bool_at m start n c)
-    (pick (ltb q 64) (optional_float_at m (q - 48) start n c) (enumerated_at m (q - 64) start n c))
-
-unfoldable pub coded_at : List ℕ → ℕ → ℕ → ℕ → Cursor → List ℕ
-coded_at m q start n c = pick (ltb q 32) (plain_at m (coded_width q) start n (coded_end m q start n c)) (other_at m q start n c)
+-- by the code
+unfoldable pub coded_at : List ℕ → Code → ℕ → ℕ → Cursor → List ℕ
+coded_at m (Number flagged w) start n c = plain_at m w start n (number_end m flagged start n c)
+coded_at m Boolean start n c = bool_at m start n c
+coded_at m (Float w) start n c = optional_float_at m w start n c
+coded_at m (Enumerated k) start n c = enumerated_at m k start n c
 
 -- the bytes of a member that leads to an object, by its kind: a union has a choice before the reference
 unfoldable pub lead_width : ℕ → ℕ → ℕ
 lead_width o k = pick (eqb k 17) (2 + o) o
 
--- n floats or enums; the other flat elements have no mark
+-- n elements of a list that lead to no object, the first at a place
 unfoldable pub flats_at : List ℕ → Flat → ℕ → ℕ → List ℕ
-flats_at m F.Boolean n at = []
-flats_at m (F.Integer s w) n at = []
+flats_at m F.Boolean n at = bools_at m at n 0
+flats_at m (F.Integer s w) n at = numbers_at m w n at
 flats_at m (F.Float w) n at = floats_at m w n at
 flats_at m (F.Enumerated k) n at = enums_at m k n at
 flats_at m (F.Struct i) n at = []

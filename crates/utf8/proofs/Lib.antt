@@ -1,5 +1,4 @@
 -- Lemmas for the proofs of this crate.
-pub mod LastArm
 pub mod TableLaws
 pub mod OctetLaws
 pub mod StepLaws

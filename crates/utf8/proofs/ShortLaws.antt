@@ -1,5 +1,5 @@
 -- Short texts by words: ASCII has no high bits, and it is text.
-use Prim.Native.Nat.{ℕ, zero, suc, ◌+◌, ◌-◌, ◌*◌, ◌/◌, ◌%◌, ◌^◌, ◌≤◌, ◌<◌}
+use Prim.Native.Nat.{ℕ, zero, suc, min, ◌+◌, ◌-◌, ◌*◌, ◌/◌, ◌%◌, ◌^◌, ◌≤◌, ◌<◌}
 use native.Mathlib.Omega.{arith}
 use native.Mathlib.Nat.{mod-eq_of_lt, mod-lt}
 use mathlib.Core.Path.{◌≡◌, refl, ap, ap₂, sym, subst, ◌∙◌}
@@ -10,27 +10,13 @@ use lib.Bits.{bit_and, bit_or, and_zero_r, or_lt, or_comm, or_shr, or_mod, and_b
 use lib.ListN.{length, get_or, take, drop}
 use lib.Pow.{split, shr-shr, high}
 use lib.Seq.{drop-cons}
-use borrow.Author.Tests.{eqb-true, ltb-true, ltb-false, lt-ltb, le-ltb}
-use Rattle.coding.specs.Lists.{pick}
+use borrow.Author.Tests.{eqb-true, ltb-true, ltb-false}
 use Rattle.coding.specs.Bytes.{le}
 use Rattle.coding.specs.Utf8.{TextState, Boundary, may_end, text_from, is_text}
 use Rattle.wire.specs.Numbers.{Number, le_small, le_join}
-use Rattle.utf8.specs.Steps.{Ascii, lesser}
+use Rattle.utf8.specs.Steps.{Ascii}
 use Rattle.utf8.proofs.OctetLaws.{ascii_stays}
 use Rattle.utf8.proofs.StepLaws.{or_left}
-
--- ---- the lesser of two numbers
-module _ (a b : ℕ) where
-  pub lesser-first : a < b → (a ≡ lesser a b) × (a ≤ a) × (a ≤ b)
-  unfolding lesser
-  lesser-first h = (simp (lt-ltb a b h), omega arith, omega arith)
-
-  pub lesser_second : b ≤ a → (b ≡ lesser a b) × (b ≤ a) × (b ≤ b)
-  unfolding lesser
-  lesser_second h = (simp (le-ltb a b h), h, omega arith)
-
-  pub at-lesser : (m : List ℕ) (k r : ℕ) → k ≡ lesser a b → Number m k 8 r → Number m (lesser a b) 8 r
-  at-lesser m k r e h = subst (λ (i : ℕ). Number m i 8 r) e h
 
 -- ---- high bits
 -- the high bits of k bytes
@@ -181,36 +167,25 @@ module _ (m : List ℕ) where
     four_cover = record { each = λ t l. of_four t l (ltb t 8) (ltb t 16) (ltb t (n - 8)) refl refl refl }
 
 -- ---- two words together
-module _ (m : List ℕ) (bytes : (i : ℕ) → get_or m i 0 < 256) (start n last half v w : ℕ) (few : n ≤ 16) (room : 8 ≤ start + n)
-    (f : last ≡ start + n - 8) (eh : half ≡ 32 - 4 * lesser n 8) (nv : Number m (lesser start last) 8 v) (nw : Number m last 8 w) where
+module _ (m : List ℕ) (bytes : (i : ℕ) → get_or m i 0 < 256) (start n last half at v w : ℕ) (few : n ≤ 16) (room : 8 ≤ start + n)
+    (f : last ≡ start + n - 8) (eh : half ≡ 32 - 4 * min n 8) (ea : at ≡ min start last) (nv : Number m at 8 v) (nw : Number m last 8 w) where
   module _ (e : bit_and (bit_or v w / 2 ^ half / 2 ^ half) (high_bits 8) ≡ 0) where
     ends : Number m (start + n - 8) 8 w
     ends = subst (λ (k : ℕ). Number m k 8 w) f nw
 
     fewer : n < 8 → Ascii m start n
-    unfolding lesser
     fewer l =
-        let i : pick (ltb n 8) n 8 ≡ n = simp (lt-ltb n 8 l) in
-        let z : half ≡ 32 - 4 * n = eh ∙ ap (λ (k : ℕ). 32 - 4 * k) i in
+        let z : half ≡ 32 - 4 * n = omega arith in
         upper_ascii m bytes start n w half (omega arith) room z ends (last_none v w half e)
 
     eight-or_more : 8 ≤ n → Ascii m start n
-    unfolding lesser
     eight-or_more l =
-        let i : pick (ltb n 8) n 8 ≡ 8 = simp (le-ltb n 8 l) in
-        let z : half ≡ 32 - 4 * 8 = eh ∙ ap (λ (k : ℕ). 32 - 4 * k) i in
-        let s : lesser start last ≡ start = first_is in
+        let z : half ≡ 32 - 4 * 8 = omega arith in
+        let s : at ≡ start = omega arith in
         two_cover m start n l
         (eight_ascii m bytes start v half z (subst (λ (k : ℕ). Number m k 8 v) s nv) (first_none v w half e))
         (eight_ascii m bytes (start + n - 8) w half z ends (last_none v w half e))
         few
-      where
-        by : (t : Bool) → ltb start last ≡ t → pick t start last ≡ start
-        by true q = refl
-        by false q = let k : last ≤ start = ltb-false start last q in omega arith
-
-        first_is : pick (ltb start last) start last ≡ start
-        first_is = by (ltb start last) refl
 
     by_length : (t : Bool) → ltb n 8 ≡ t → Ascii m start n
     by_length true l = fewer (ltb-true n 8 l)
@@ -241,10 +216,6 @@ module _ (m : List ℕ) (bytes : (i : ℕ) → get_or m i 0 < 256) (start n end 
   pub four_ascii : eqb (bit_and (bit_or (bit_or v₀ v₁) (bit_or w₀ w₁)) 0x8080_8080_8080_8080) 0 ≡ true → Ascii m start n
   unfolding high_bits
   four_ascii e = by_four (eqb-true _ _ e)
-
--- what is not told claims nothing
-pub not_told : (P : Type 0) → ◌≡◌ {A = Bool} false true → P
-not_told P e = let z : ◌≡◌ {A = ℕ} 0 1 = cc in absurd (omega arith)
 
 -- ---- ASCII is text
 pub ascii-text : (m : List ℕ) (n start : ℕ) → start + n ≤ length m → Ascii m start n → true ≡ is_text (take n (drop start m))

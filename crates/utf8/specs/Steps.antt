@@ -1,5 +1,5 @@
 -- What a run over bytes promises: how a word holds a state, and to which state bytes lead.
-use Rattle.std.specs.Prelude.{ℕ, ◌+◌, ◌-◌, ◌*◌, ◌/◌, ◌%◌, ◌≤◌, ◌<◌, ◌≡◌, List, [], ◌∷◌, ltb, eqb, length, get_or, take, drop}
+use Rattle.std.specs.Prelude.{ℕ, ◌+◌, ◌-◌, ◌*◌, ◌/◌, ◌%◌, ◌≤◌, ◌<◌, ◌≡◌, List, [], ◌∷◌, eqb, length, get_or, take, drop}
 use Rattle.coding.specs.Lists.{pick}
 use Rattle.coding.specs.Utf8.{TextState, Boundary, OneTail, TwoTails, ThreeTails, AfterE0, AfterED, AfterF0, AfterF4, NoText, after_octet}
 use Rattle.utf8.specs.Table.{state_number}
@@ -49,7 +49,3 @@ Skips m i j = Leads m i j Boundary Boundary
 -- the n bytes from i are ASCII
 pub record Ascii (m : List ℕ) (i n : ℕ) : Type 0 where
   pub each : (t : ℕ) → t < n → get_or m (i + t) 0 < 128
-
--- the lesser of two numbers
-unfoldable pub lesser : ℕ → ℕ → ℕ
-lesser a b = pick (ltb a b) a b

@@ -1,3 +1,4 @@
 -- Lemmas for the proofs of this crate.
 pub mod Bits
+pub mod Bytes
 pub mod Floats

@@ -16,16 +16,15 @@ pub const U32: usize = 4;
 
 // The width under the coding that a number names, 48 or 32. Any other number names none: no schema is lawful under its width, so
 // that every answer is the refusal 1.
+// Kept: the contracts of the exports name the width by `B.width_of`, which is 0 there.
 pub fn width_of(coding: u32) -> usize
     ensures { result ≡ B.width_of coding }
 {
-    if coding == 48 {
-        return U48;
+    match coding {
+        48 => U48,
+        32 => U32,
+        _ => 0,
     }
-    if coding == 32 {
-        return U32;
-    }
-    0
 }
 
 // The bytes of a magic.
@@ -55,13 +54,14 @@ pub const LARGEST: usize = 16777215;
 
 // ---- answers
 // The member of an answer that is about none.
+// Kept: the C interface has this number for none.
 pub const NO_MEMBER: u32 = 4294967295;
 
 // ---- bytes
 pub fn byte(m: &[u8], at: usize) -> u8
     ensures { result ≡ get_or m.now at 0 }
 {
-    if at < m.len() { m[at] } else { 0 }
+    m.get(at).copied().unwrap_or(0)
 }
 
 pub fn byte_in(m: &[u8], at: usize) -> u8
@@ -74,42 +74,46 @@ pub fn byte_in(m: &[u8], at: usize) -> u8
 pub fn wide(x: u8) -> u64
     ensures { (result ≡ x) × (result < 256) }
 {
-    x as u64
+    u64::from(x)
 }
 
 pub fn index(x: u8) -> usize
     ensures { (result ≡ x) × (result < 256) }
 {
-    x as usize
+    usize::from(x)
 }
 
 // ---- numbers whose bytes are there
-pub fn u8_in(m: &[u8], at: usize) -> u64
-    requires { at + 1 ≤ length m.now }
-    ensures { Number m.now at 1 result }
+// The number of W bytes.
+pub fn number_in<const W: usize>(m: &[u8], at: usize) -> u64
+    requires few { W ≤ 8 }
+    requires inside { at + W ≤ length m.now }
+    ensures { Number m.now at W result }
 {
-    wide(m[at])
+    let mut bytes = [0; 8];
+    bytes[..W].copy_from_slice(&m[at..at + W]);
+    u64::from_le_bytes(bytes)
 }
 
 pub fn u16_in(m: &[u8], at: usize) -> u64
     requires { at + 2 ≤ length m.now }
     ensures { Number m.now at 2 result }
 {
-    u8_in(m, at) | u8_in(m, at + 1) << 8
+    number_in::<2>(m, at)
 }
 
 pub fn u32_in(m: &[u8], at: usize) -> u64
     requires { at + 4 ≤ length m.now }
     ensures { Number m.now at 4 result }
 {
-    u16_in(m, at) | u16_in(m, at + 2) << 16
+    number_in::<4>(m, at)
 }
 
-pub fn u48_in(m: &[u8], at: usize) -> u64
-    requires { at + 6 ≤ length m.now }
-    ensures { Number m.now at 6 result }
+pub fn u64_in(m: &[u8], at: usize) -> u64
+    requires { at + 8 ≤ length m.now }
+    ensures { Number m.now at 8 result }
 {
-    u32_in(m, at) | u16_in(m, at + 4) << 32
+    number_in::<8>(m, at)
 }
 
 // An offset or a length whose bytes are there.
@@ -118,16 +122,9 @@ pub fn offset_in(m: &[u8], at: usize, o: usize) -> usize
     ensures { (result ≡ B.le m.now at o) × (result < 2 ^ 48) }
 {
     if o == U48 {
-        return u48_in(m, at) as usize;
+        return number_in::<U48>(m, at) as usize;
     }
-    u32_in(m, at) as usize
-}
-
-pub fn u64_in(m: &[u8], at: usize) -> u64
-    requires { at + 8 ≤ length m.now }
-    ensures { Number m.now at 8 result }
-{
-    u32_in(m, at) | u32_in(m, at + 4) << 32
+    number_in::<U32>(m, at) as usize
 }
 
 // ---- numbers of any width up to 8 bytes, wherever they stand
@@ -136,10 +133,8 @@ fn bytes_of(m: &[u8], at: usize, w: usize) -> u64
     ensures { Number m.now at w result }
 {
     let mut v: u64 = 0;
-    let mut i = w;
-    while 0 < i {
-        i -= 1;
-        v = v << 8 | wide(byte(m, at + i));
+    for i in (0..w).rev() {
+        v = v << 8 | u64::from(byte(m, at + i));
     }
     v
 }
@@ -151,19 +146,13 @@ pub fn number(m: &[u8], at: usize, w: usize) -> u64
     if m.len() < at + w {
         return bytes_of(m, at, w);
     }
-    if w == 8 {
-        return u64_in(m, at);
+    match w {
+        8 => number_in::<8>(m, at),
+        4 => number_in::<4>(m, at),
+        2 => number_in::<2>(m, at),
+        1 => number_in::<1>(m, at),
+        _ => bytes_of(m, at, w),
     }
-    if w == 4 {
-        return u32_in(m, at);
-    }
-    if w == 2 {
-        return u16_in(m, at);
-    }
-    if w == 1 {
-        return u8_in(m, at);
-    }
-    bytes_of(m, at, w)
 }
 
 // ---- floats
@@ -182,7 +171,7 @@ pub fn bit_value(x: u8, k: usize) -> u64
     requires { k < 8 }
     ensures { (result ≡ x / 2 ^ k % 2) × (result < 2) }
 {
-    wide(x) >> k & 1
+    u64::from(x) >> k & 1
 }
 
 pub fn bit_in(m: &[u8], at: usize, k: usize) -> bool
@@ -203,34 +192,21 @@ pub fn bit(m: &[u8], at: usize, k: usize) -> bool
 pub fn eighth(i: usize) -> usize
     ensures { result ≡ i / 8 }
 {
-    i >> 3
+    i / 8
 }
 
 pub fn low_three(i: usize) -> usize
     ensures { (result ≡ i % 8) × (result < 8) }
 {
-    i & 7
+    i % 8
 }
 
 // ---- stores
-// The lowest byte of a number.
-pub fn low_byte(x: usize) -> u8
-    ensures { result ≡ x % 256 }
-{
-    (x & 255) as u8
-}
-
 // The four lowest bytes of a number, lowest first, where there is room for them.
 pub fn put_u32_in(out: &mut [u8], at: usize, x: usize)
     requires { (at < 2 ^ 62) × (at + 4 ≤ length out.old) }
     ensures { out.new ≡ sets out.old at (B.le_bytes 4 x) }
 {
-    let first = low_byte(x);
-    let second = low_byte(x >> 8);
-    let third = low_byte(x >> 16);
-    let fourth = low_byte(x >> 24);
-    out[at] = first;
-    out[at + 1] = second;
-    out[at + 2] = third;
-    out[at + 3] = fourth;
+    let bytes = x.to_le_bytes();
+    out[at..at + 4].copy_from_slice(&[bytes[0], bytes[1], bytes[2], bytes[3]]);
 }

@@ -6,7 +6,6 @@ ghost use Rattle.coding.specs.Bits.{bits};
 ghost use Rattle.coding.specs.Bytes as B;
 ghost use Rattle.coding.specs.Message as M;
 ghost use Rattle.coding.specs.Packed as P;
-ghost use Rattle.schema.specs.Directory.{Accepted, AcceptedUnder};
 ghost use Rattle.wire.specs.Sizes.{WithinSize, Width};
 ghost use Rattle.write_measure.specs.Survey as Sv;
 ghost use Rattle.write_measure.specs.Surveyed.{Small};
@@ -15,9 +14,11 @@ ghost use Rattle.write_pass.specs.EmitSheet as Es;
 ghost use Rattle.write_pass.specs.Emitting as Eg;
 ghost use Rattle.write_pass.specs.Measure.{Measured};
 ghost use Rattle.write.specs.Writing as Wr;
+ghost use Rattle.schema.specs.Parsed.{parsed, bytes_of};
 
 use coding::{Object, Verdict, WriteAnswer};
 use message_header::TableObject;
+use schema::Schema;
 use write_measure::Extent;
 use write_pass::Emitted;
 use write_store::Places;
@@ -35,10 +36,7 @@ fn closed(s: &[u8], pos: usize) -> bool
     ensures { result ≡ Wr.only_end (drop pos (bits s.now)) }
 {
     let left = 8 * s.len() - pos;
-    if 8 <= left {
-        return false;
-    }
-    bitio::get(s, pos, left) == 0
+    left < 8 && bitio::get(s, pos, left) == 0
 }
 
 // The length of the message whose root table takes e: the message's start, the table's header, and what it takes.
@@ -51,11 +49,11 @@ fn message_size(e: Extent, o: usize) -> usize
 }
 
 // The message's start and the root table, which takes e, into a buffer of the message's length.
-fn emit_message(b: &[u8], dir: &[u16], s: &[u8], e: Extent, out: &mut [u8], o: usize) -> Emitted
-    requires { (Accepted b.now dir.now) × (Width o) × (WithinSize s.now) × (Measured false (Sv.survey B.deepest o (P.parse b.now) (Object.Table (P.parse b.now).root) (bits s.now)) e) }
-    ensures { Eg.MessageAt s.now (Es.emit_message o (P.parse b.now) out.old (bits s.now)) result.whole result.places out.new result.next }
+fn emit_message(schema: &Schema, s: &[u8], e: Extent, out: &mut [u8]) -> Option<Emitted>
+    requires { (WithinSize s.now) × (Measured false (Sv.survey B.deepest schema.now.width (parsed schema.now) (Object.Table (parsed schema.now).root) (bits s.now)) e) }
+    ensures { Eg.MessageAt s.now (Es.emit_message schema.now.width (parsed schema.now) out.old (bits s.now)) result out.new }
 {
-    let size = wire::start_size(o);
+    let size = wire::start_size(schema.width);
     let start = Places {
         at: 0,
         last: 0,
@@ -64,28 +62,29 @@ fn emit_message(b: &[u8], dir: &[u16], s: &[u8], e: Extent, out: &mut [u8], o: u
         tail: size,
         next: size,
     };
-    let ob = message_start::root_object(b, dir);
-    let p = write_store::put_number(out, start, wire::MAGIC, message_start::MAGIC);
-    write_pass::emit_measured(b, dir, s, out, 32, ob, false, e, p, 0, o)
+    let ob = message_start::root_object(schema);
+    let places = write_store::put_number(out, start, wire::MAGIC, message_start::MAGIC);
+    let from = Emitted { places, next: 0 };
+    write_pass::emit_measured(schema, s, out, 32, ob, false, e, from)
 }
 
 // Writes a lawful sheet, whose root table takes e: 12, 13 or 14, or else the message.
-fn write_lawful(b: &[u8], dir: &[u16], s: &[u8], e: Extent, out: &mut [u8], o: usize) -> WriteAnswer
-    requires { (AcceptedUnder o b.now dir.now) × Wr.LawfulSheet o b.now s.now e }
-    ensures value { result ≡ M.write_answer o b.now s.now out.old }
-    ensures out_after { out.new ≡ M.write_out o b.now s.now out.old }
+fn write_lawful(schema: &Schema, s: &[u8], e: Extent, out: &mut [u8]) -> WriteAnswer
+    requires { Wr.LawfulSheet schema.now.width (bytes_of schema.now) s.now e }
+    ensures value { result ≡ M.write_answer schema.now.width (bytes_of schema.now) s.now out.old }
+    ensures out_after { out.new ≡ M.write_out schema.now.width (bytes_of schema.now) s.now out.old }
 {
     if !e.writable {
         return refused(12);
     }
-    let n = message_size(e, o);
+    let n = message_size(e, schema.width);
     if wire::LARGEST < n {
         return refused(13);
     }
     if out.len() < n {
         return refused(14);
     }
-    emit_message(b, dir, s, e, &mut out[..n], o);
+    emit_message(schema, s, e, &mut out[..n]);
     WriteAnswer {
         number: 0,
         length: n,
@@ -93,23 +92,23 @@ fn write_lawful(b: &[u8], dir: &[u16], s: &[u8], e: Extent, out: &mut [u8], o: u
 }
 
 // Writes a sheet by a schema that was found lawful: 11, or as a lawful sheet.
-fn write_judged(b: &[u8], dir: &[u16], s: &[u8], out: &mut [u8], o: usize) -> WriteAnswer
-    requires { AcceptedUnder o b.now dir.now }
-    ensures value { result ≡ M.write_answer o b.now s.now out.old }
-    ensures out_after { out.new ≡ M.write_out o b.now s.now out.old }
+fn write_judged(schema: &Schema, s: &[u8], out: &mut [u8]) -> WriteAnswer
+    ensures value { result ≡ M.write_answer schema.now.width (bytes_of schema.now) s.now out.old }
+    ensures out_after { out.new ≡ M.write_out schema.now.width (bytes_of schema.now) s.now out.old }
 {
     if wire::LARGEST < s.len() {
         return refused(11);
     }
-    let ob = message_start::root_object(b, dir);
-    let x = write_measure::object(b, dir, s, 32, ob, 0, o);
-    if !x.whole {
-        return refused(11);
+    let ob = message_start::root_object(schema);
+    match write_measure::object(schema, s, 32, ob, 0) {
+        None => refused(11),
+        Some(x) => {
+            if !closed(s, x.next) {
+                return refused(11);
+            }
+            write_lawful(schema, s, x.extent, out)
+        }
     }
-    if !closed(s, x.next) {
-        return refused(11);
-    }
-    write_lawful(b, dir, s, x.extent, out, o)
 }
 
 // Writes a sheet as a message: 1, 11, 12, 13 or 14, each over the whole sheet; else the message's length, and the message in
@@ -119,11 +118,11 @@ pub fn write(b: &[u8], s: &[u8], out: &mut [u8], o: usize) -> WriteAnswer
     ensures value { result ≡ M.write_answer o b.now s.now out.old }
     ensures out_after { out.new ≡ M.write_out o b.now s.now out.old }
 {
-    let mut dir: [u16; 384] = [0; 384];
-    if schema_lawful::judge_schema(b, &mut dir, o) {
-        return write_judged(b, &dir, s, out, o);
+    let mut directory: [u16; schema::DIRECTORY] = [0; schema::DIRECTORY];
+    match schema_lawful::judge_schema(b, &mut directory, o) {
+        Some(schema) => write_judged(&schema, s, out),
+        None => refused(1),
     }
-    refused(1)
 }
 
 // The verdict of a writer's answer: 0 or the refusal's number, at 0, about no member, with nothing spent.

@@ -4,3 +4,4 @@ pub mod PartCases
 pub mod ObjectCases
 pub mod SimpleCases
 pub mod ElementCases
+pub mod MarkCases

@@ -1,5 +1,6 @@
 -- What the survey answers, and that it is what the definitions say of a sheet.
 pub mod Survey
+pub mod Marks
 pub mod Mapped
 pub mod Summed
 pub mod SlotSizes

@@ -1,5 +1,5 @@
 -- Simple members: flat values, texts and bytes. Nothing in them has parts, so that no walk to other objects is needed.
-use Rattle.std.specs.Prelude.{◌≡◌, Bool, ℕ, ◌*◌, ◌≤◌, length, drop, eqb}
+use Rattle.std.specs.Prelude.{◌≡◌, Bool, ℕ, ◌*◌, ◌≤◌, length, drop, eqb, Option, MatchOption}
 use Rattle.std.proofs.Math.Path.{refl}
 use Rattle.std.proofs.Math.Bool.{true, false}
 use mathlib.Core.List.{List, ◌∷◌}
@@ -15,6 +15,7 @@ use Rattle.coding.specs.declared.Member.{Member}
 use Rattle.write_measure.specs.Survey.{survey_mark, survey_flat, survey_struct, plain, joined, Surveyor, plain_of, survey_body, survey_unknown_flat, survey_unknown, flat_may_lack, may_lack, survey_part, survey_members}
 use Rattle.write_measure.specs.Surveyed.{Small}
 use Rattle.write_measure.specs.declared.Extent.{Extent}
+use Rattle.write_measure.specs.declared.Left.{Left}
 
 -- a flat value with its mark: whether it can be written
 unfoldable pub flat_part : (ℕ → List ℕ → Parsed Bool) → Bool → Flat → List ℕ → Parsed Bool
@@ -24,13 +25,16 @@ flat_part inner optional k xs = survey_mark (flat_may_lack optional k) (survey_u
 unfoldable pub joined_part : Surveyor → ℕ → Schema → Member → Extent → List ℕ → Parsed Extent
 joined_part child o S r a xs = bind (survey_part child o S r.kind r.optional r.inplace xs) (λ e ys. got (joined a e) ys)
 
--- the members ms are gone over from `from` to j, with `e` for all before j; or p, the survey of those from `from` on, fails
-pub record LeftAt (child : Surveyor) (o : ℕ) (S : Schema) (ms : List Member) (s : List ℕ) (from : ℕ) (p : Parsed Extent) (whole : Bool) (j : ℕ) (e : Extent) (next : ℕ) : Type 0 where
-  pub is : p ≡ pick whole (survey_members child o S (drop j ms) e (drop next (bits s))) fail
-  pub on : from ≤ j
-  pub few : j ≤ length ms
-  pub inside : next ≤ 8 * length s
-  pub small : Small e
+-- of p, the survey of the members ms from `from` on: they are gone over up to l's index, with l's extent for all before it
+pub record LeftAt (child : Surveyor) (o : ℕ) (S : Schema) (ms : List Member) (s : List ℕ) (from : ℕ) (p : Parsed Extent) (l : Left) : Type 0 where
+  pub is : p ≡ survey_members child o S (drop l.index ms) l.extent (drop l.next (bits s))
+  pub on : from ≤ l.index
+  pub few : l.index ≤ length ms
+  pub inside : l.next ≤ 8 * length s
+  pub small : Small l.extent
+
+abbrev pub LeftIn : Surveyor → ℕ → Schema → List Member → List ℕ → ℕ → Parsed Extent → Option Left → Type 0
+LeftIn child o S ms s from p r = MatchOption r (p ≡ fail) (LeftAt child o S ms s from p)
 
 -- a member takes w bytes, and no bit
 pub record WholeBytes (o : ℕ) (S : Schema) (m : Member) (w : ℕ) : Type 0 where

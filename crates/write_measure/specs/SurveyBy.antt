@@ -1,22 +1,24 @@
 -- What the contracts of this crate say, in few words: the survey of each part by the schema's bytes b, and a function's answer
 -- for the sheet s from bit `pos` on. `o` is the width of an offset in bytes; d objects may stand below.
-use Rattle.std.specs.Prelude.{ℕ, ◌*◌, ◌≤◌, List, Bool, true, false, length, drop}
+use Rattle.std.specs.Prelude.{ℕ, ◌*◌, ◌≤◌, List, Bool, true, false, length, drop, ◌≡◌, Option, MatchOption}
 use Rattle.coding.specs.Bits.{bits}
 use Rattle.coding.specs.Schema.{cases_of, table_of}
 use Rattle.coding.specs.Packed.{parse, optional_at, inplace_at, flat_at, object_at, member_at}
 use Rattle.coding.specs.Layout.{fixed_size}
-use Rattle.coding.specs.Sheet.{Parsed}
+use Rattle.coding.specs.Sheet.{Parsed, fail}
 use Rattle.coding.specs.declared.Flat.{Flat}
 use Rattle.coding.specs.declared.Object.{Object}
 use Rattle.coding.specs.declared.Kind.{Kind}
 use Rattle.coding.specs.declared.Kind.TheVariants.{OfObject}
 use Rattle.write_measure.specs.Survey.{test_if, above_count, survey_flat, survey_field, survey_struct, survey_object, survey_choice, survey_body, survey_unknown, survey_part, survey_members, survey_elements, survey_directs, survey_content, survey}
-use Rattle.write_measure.specs.Surveyed.{TestedAt, SurveyedAt}
-use Rattle.write_measure.specs.SimpleMembers.{flat_part, joined_part, LeftAt}
+use Rattle.write_measure.specs.Surveyed.{TestedIn, SurveyedIn}
+use Rattle.write_measure.specs.SimpleMembers.{flat_part, joined_part, LeftIn}
+use Rattle.write_measure.specs.Marks.{mark_of, MarkedAt}
 use Rattle.write_measure.specs.declared.Extent.{Extent}
 use Rattle.write_measure.specs.declared.Tested.{Tested}
 use Rattle.write_measure.specs.declared.Surveyed.{Surveyed}
 use Rattle.write_measure.specs.declared.Left.{Left}
+use Rattle.write_measure.specs.declared.Marked.{Marked}
 
 -- ---- what leads to no object
 module _ (b : List ℕ) where
@@ -94,17 +96,20 @@ module _ (o d : ℕ) (b : List ℕ) where
   abbrev pub content : Object → List ℕ → Parsed Extent
   content ob xs = survey_content (survey d o (parse b)) o (parse b) ob xs
 
--- ---- answers
-abbrev pub Tests : List ℕ → ℕ → (List ℕ → Parsed Bool) → Tested → Type 0
-Tests s pos f r = TestedAt s (f (drop pos (bits s))) r.whole r.fine r.next
+-- ---- answers: none where the sheet is not lawful
+abbrev pub Marks : List ℕ → ℕ → Option Marked → Type 0
+Marks s pos r = MatchOption r (mark_of (drop pos (bits s)) ≡ fail) (MarkedAt s pos)
 
-abbrev pub Surveys : List ℕ → ℕ → (List ℕ → Parsed Extent) → Surveyed → Type 0
-Surveys s pos f r = SurveyedAt s (f (drop pos (bits s))) r.whole r.extent r.next
+abbrev pub Tests : List ℕ → ℕ → (List ℕ → Parsed Bool) → Option Tested → Type 0
+Tests s pos f r = TestedIn s (f (drop pos (bits s))) r
+
+abbrev pub Surveys : List ℕ → ℕ → (List ℕ → Parsed Extent) → Option Surveyed → Type 0
+Surveys s pos f r = SurveyedIn s (f (drop pos (bits s))) r
 
 -- some members of table t from `from` on are gone over
-abbrev pub Leaves : ℕ → ℕ → List ℕ → ℕ → ℕ → Extent → List ℕ → ℕ → Left → Type 0
+abbrev pub Leaves : ℕ → ℕ → List ℕ → ℕ → ℕ → Extent → List ℕ → ℕ → Option Left → Type 0
 Leaves o d b t from a s pos r =
-    LeftAt (survey d o (parse b)) o (parse b) (table_of (parse b) t).members s from (members o d b t from a (drop pos (bits s))) r.whole r.index r.extent r.next
+    LeftIn (survey d o (parse b)) o (parse b) (table_of (parse b) t).members s from (members o d b t from a (drop pos (bits s))) r
 
 -- bit `pos` of the sheet s stands in it, or at its end; and s is within the size
 abbrev pub Inside : List ℕ → ℕ → Type 0

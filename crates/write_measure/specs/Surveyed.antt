@@ -1,11 +1,10 @@
 -- What the survey's code answers, against the definitions: whether a part of the sheet is lawful, what it says, and where
 -- the sheet goes on.
 use Prim.Native.Nat.{ℕ, ◌*◌, ◌^◌, ◌≤◌, ◌<◌}
-use Rattle.std.specs.Prelude.{◌≡◌, Bool, true, ◌&&◌, length, drop}
+use Rattle.std.specs.Prelude.{◌≡◌, Bool, true, ◌&&◌, length, drop, Option, MatchOption}
 use Rattle.std.proofs.Math.Path.{refl, ap}
 use Rattle.std.proofs.Common.{◌∙◌}
 use mathlib.Core.List.{List, [], ◌∷◌}
-use Rattle.coding.specs.Lists.{pick}
 use Rattle.coding.specs.Bits.{bits}
 use Rattle.coding.specs.Schema.{Schema, struct_of}
 use Rattle.coding.specs.Structs.{lower, by_index}
@@ -17,11 +16,17 @@ use Rattle.laws.specs.Sound.{All, FlatSound, Sound}
 use Rattle.write_measure.specs.Survey.{survey_flat, survey_field, survey_fields, survey_by, survey_nothing, survey_struct}
 use Rattle.write_measure.specs.Mapped.{bind-same}
 use Rattle.write_measure.specs.declared.Extent.{Extent}
+use Rattle.write_measure.specs.declared.Tested.{Tested}
+use Rattle.write_measure.specs.declared.Surveyed.{Surveyed}
 
--- `next` is where the sheet s goes on behind what p gives
-pub record TestedAt (s : List ℕ) (p : Parsed Bool) (whole fine : Bool) (next : ℕ) : Type 0 where
-  pub is : p ≡ pick whole (got fine (drop next (bits s))) fail
-  pub inside : next ≤ 8 * length s
+-- p got what t says, and behind it the sheet s goes on at t's `next`
+pub record TestedAt (s : List ℕ) (p : Parsed Bool) (t : Tested) : Type 0 where
+  pub is : p ≡ got t.fine (drop t.next (bits s))
+  pub inside : t.next ≤ 8 * length s
+
+-- the answer r to p: none where p fails
+abbrev pub TestedIn : List ℕ → Parsed Bool → Option Tested → Type 0
+TestedIn s p r = MatchOption r (p ≡ fail) (TestedAt s p)
 
 -- numbers that fit
 pub record Small (e : Extent) : Type 0 where
@@ -35,10 +40,13 @@ pub record Fits (x r : Extent) : Type 0 where
   pub is : r ≡ x
   pub small : Small r
 
-pub record SurveyedAt (s : List ℕ) (p : Parsed Extent) (whole : Bool) (e : Extent) (next : ℕ) : Type 0 where
-  pub is : p ≡ pick whole (got e (drop next (bits s))) fail
-  pub inside : next ≤ 8 * length s
-  pub small : Small e
+pub record SurveyedAt (s : List ℕ) (p : Parsed Extent) (x : Surveyed) : Type 0 where
+  pub is : p ≡ got x.extent (drop x.next (bits s))
+  pub inside : x.next ≤ 8 * length s
+  pub small : Small x.extent
+
+abbrev pub SurveyedIn : List ℕ → Parsed Extent → Option Surveyed → Type 0
+SurveyedIn s p r = MatchOption r (p ≡ fail) (SurveyedAt s p)
 
 -- ---- a struct is its members in turn, each inner struct by its own index
 module _ (i : ℕ) (f g : ℕ → List ℕ → Parsed Bool) (same : (j : ℕ) → j < i → f j ≡ g j) where

@@ -1,13 +1,14 @@
 -- The ways out of the pass over what leads to no object: numbers, enums, runs of bytes, and what stands for no value.
 use mathlib.Core.Path.{◌≡◌, refl, sym, ap, ◌∙◌, subst}
-use mathlib.Core.Bool.{Bool, true, false, not, false≢true}
+use mathlib.Core.Bool.{Bool, true, false, false≢true}
 use mathlib.Core.List.{List, [], ◌∷◌}
+use Rattle.std.specs.Prelude.{Option, Some, None}
 use Prim.Native.Nat.{ℕ, zero, suc, ◌+◌, ◌*◌, ◌^◌, ◌<◌, ◌≤◌}
 use native.Mathlib.Omega.{arith}
 use lib.ListN.{length, take, drop, length-drop}
 use lib.Seq.{sets}
 use lib.Dec.{leb, eqb}
-use borrow.Author.Tests.{eq-eqb, ne_eqb, lt-ltb, le-ltb, leb-true, not-true, not-false}
+use borrow.Author.Tests.{eq-eqb, ne_eqb, lt-ltb, le-ltb, leb-true}
 use Rattle.coding.specs.Lists.{pick}
 use Rattle.coding.specs.Bytes.{le_bytes, no_float}
 use Rattle.coding.specs.Bits.{bits, value, pack}
@@ -24,8 +25,14 @@ use Rattle.coding.specs.declared.Kind.TheVariants.{OfFlat, OfObject, OfUnion}
 use Rattle.laws.specs.Lists.{never}
 use Rattle.laws.specs.Bits.{bits-length, pack-length}
 use Rattle.laws.specs.Sound.{FlatSound, FlatScalar}
-use Rattle.bitio.specs.Taken.{TakenNumber, TakenBytes}
+use Rattle.bitio.specs.Taken.{NumberAt, BytesAt}
+use Rattle.bitio.specs.declared.Number.{Number}
 use Rattle.write_measure.proofs.FlatCases.{float_short}
+use Rattle.write_measure.proofs.MarkCases.{mark_fails, marked_is}
+use Rattle.write_measure.specs.Marks.{mark_of, MarkedAt, by_mark}
+use Rattle.write_measure.specs.declared.Mark.{Mark}
+use Rattle.write_measure.specs.declared.Mark.TheVariants as Mark
+use Rattle.write_measure.specs.declared.Marked.{Marked}
 use Rattle.write_measure.specs.Survey.{below_count, above_count, survey_mark}
 use Rattle.write_store.specs.State.{State, put_bytes, put_bit, put_byte, put_number}
 use Rattle.write_pass.specs.EmitFlats.{put_none}
@@ -33,247 +40,250 @@ use Rattle.write_pass.specs.EmitSheet.{put_nothing, emit_number, emit_if, emit_b
 use Rattle.write_store.specs.Storing.{state_of, HeldOk, Stood, BitPut, forward}
 use Rattle.write_pass.specs.Emitting.{emit_marked_enum, Room, EmittedAt, Lacks, emit_marked_float, emit_marked_flat, CopiedAt}
 use Rattle.write_store.specs.declared.Places.{Places}
+use Rattle.write_pass.specs.declared.Copied.{Copied}
+use Rattle.write_pass.specs.declared.Emitted.{Emitted}
 use Rattle.write_store.proofs.PutCases.{copy_put}
-use Rattle.write_pass.proofs.EmitRoom.{taken_at, held_same, room_taken, room_stood, room_bit, room-part, room-below, refused}
+use Rattle.write_pass.proofs.EmitRoom.{remains, whether, taken_at, marked_at, none_taken, some_taken, held_same, room_taken, room_stood, room_bit, room_marked, room-byte, room-part, room-below, refused, arrived, later, same, part_fails, part_goes}
 
 -- ---- numbers
-module _ (s : List ℕ) (pos w : ℕ) (c : Places) (room : Room s pos c) (whole : Bool) (x next : ℕ) (taken : TakenNumber s pos w whole x next) (p : Places) (out : List ℕ)
-    (t : Bool) (n : ℕ) where
-  module _ (h : not whole ≡ true) (st : State) (et : t ≡ false) (ep : p ≡ c) (en : n ≡ pos) where
-    pub number_cut : (put : ℕ → State → State) → EmittedAt s (emit_number w put st (drop pos (bits s))) pos c 0 t p out n
-    unfolding emit_number bind
-    number_cut put = refused s _ pos c 0 (rw (taken.number, not-true whole h)) room t p out n et ep en
+-- none is left
+module _ (s : List ℕ) (from : Emitted) (w : ℕ) (h : take_number w (drop from.next (bits s)) ≡ fail) (r : Option Emitted) (er : r ≡ None) (st : State) (out : List ℕ) where
+  pub number_cut : (put : ℕ → State → State) → EmittedAt s (emit_number w put st (drop from.next (bits s))) from 0 r out
+  unfolding emit_number
+  number_cut put = refused s _ from 0 (none_taken _ w _ h) r er out
 
-    pub if-cut : (ok : ℕ → Bool) (put : ℕ → State → State) → EmittedAt s (emit_if w ok put st (drop pos (bits s))) pos c 0 t p out n
-    unfolding emit_if bind
-    if-cut ok put = refused s _ pos c 0 (rw (taken.number, not-true whole h)) room t p out n et ep en
+  pub if-cut : (ok : ℕ → Bool) (put : ℕ → State → State) → EmittedAt s (emit_if w ok put st (drop from.next (bits s))) from 0 r out
+  unfolding emit_if
+  if-cut ok put = refused s _ from 0 (none_taken _ w _ h) r er out
 
-  module _ (h : not whole ≡ false) where
-    if_fails : (ok : ℕ → Bool) (put : ℕ → State → State) (st : State) → ok x ≡ false → t ≡ false → p ≡ c → n ≡ pos
-        → EmittedAt s (emit_if w ok put st (drop pos (bits s))) pos c 0 t p out n
-    unfolding emit_if bind
-    if_fails ok put st e et ep en =
-        refused s _ pos c 0 (ap (λ q. bind q (λ y ys. pick (ok y) (got (put y st) ys) fail)) (taken.number ∙ ap (λ u. pick u (got x (drop next (bits s))) fail) (not-false whole h))
-        ∙ ap (λ u. pick u (got (put x st) (drop next (bits s))) fail) e) room t p out n et ep en
+module _ (s : List ℕ) (from : Emitted) (w : ℕ) (x : Number) (taken : NumberAt s from.next w x) where
+  if_fails : (ok : ℕ → Bool) (put : ℕ → State → State) (st : State) (out : List ℕ) → ok x.value ≡ false
+      → EmittedAt s (emit_if w ok put st (drop from.next (bits s))) from 0 None out
+  unfolding emit_if
+  if_fails ok put st out e =
+      refused s _ from 0 (some_taken _ s from.next w x taken ∙ ap (λ u. pick u (got (put x.value st) (drop x.next (bits s))) fail) e) None refl out
 
-    -- behind what was put
-    module _ (q : Places) (r : Room s next q) (l : q.at ≤ c.at + 8192 * w) (et : t ≡ true) (ep : p ≡ q) (en : n ≡ next) where
-      reached : (d : Parsed State) → d ≡ got (state_of q out) (drop next (bits s)) → EmittedAt s d pos c 0 t p out n
-      reached d e =
-          let f = taken_at s pos w whole x next taken room.here h in
-          let g : q.at + 8192 * pos ≤ c.at + 0 + 8192 * next = omega arith in
-          record {
-            is = e ∙ sym (rw (et, ep, en));
-            here = rw en r.here;
-            at = rw (ep, en) g;
-            bool = rw ep r.bool;
-            tail = rw ep r.tail;
-            next = rw ep r.next;
-          }
+  -- behind what was put
+  module _ (room : Room s from) (q : Places) (out : List ℕ) (r : Room s (record { places = q; next = x.next })) (l : q.at ≤ from.places.at + 8192 * w)
+      (y : Emitted) (ey : y ≡ record { places = q; next = x.next }) where
+    reached : (d : Parsed State) → d ≡ got (state_of q out) (drop x.next (bits s)) → EmittedAt s d from 0 (Some y) out
+    reached d e =
+        let f = taken_at s from.next w x taken room.here in
+        let g : q.at + 8192 * from.next ≤ from.places.at + 0 + 8192 * x.next = omega arith in
+        arrived s d from 0 (record { places = q; next = x.next }) out e (record { here = r.here; at = g; bool = r.bool; tail = r.tail; next = r.next }) y ey
 
-      number-reached : (put : ℕ → State → State) (st : State) → state_of q out ≡ put x st → EmittedAt s (emit_number w put st (drop pos (bits s))) pos c 0 t p out n
-      unfolding emit_number bind
-      number-reached put st e =
-          reached _ (ap (λ a. bind a (λ y ys. got (put y st) ys)) (taken.number ∙ ap (λ u. pick u (got x (drop next (bits s))) fail) (not-false whole h))
-          ∙ ap (λ a. got a (drop next (bits s))) (sym e))
+    number-reached : (put : ℕ → State → State) (st : State) → state_of q out ≡ put x.value st
+        → EmittedAt s (emit_number w put st (drop from.next (bits s))) from 0 (Some y) out
+    unfolding emit_number
+    number-reached put st e = reached _ (some_taken _ s from.next w x taken ∙ ap (λ a. got a (drop x.next (bits s))) (sym e))
 
-      if-reached : (ok : ℕ → Bool) (put : ℕ → State → State) (st : State) → ok x ≡ true → state_of q out ≡ put x st
-          → EmittedAt s (emit_if w ok put st (drop pos (bits s))) pos c 0 t p out n
-      unfolding emit_if bind
-      if-reached ok put st y e =
-          reached _ (ap (λ a. bind a (λ y ys. pick (ok y) (got (put y st) ys) fail)) (taken.number ∙ ap (λ u. pick u (got x (drop next (bits s))) fail) (not-false whole h))
-          ∙ ap (λ u. pick u (got (put x st) (drop next (bits s))) fail) y ∙ ap (λ a. got a (drop next (bits s))) (sym e))
+    if-reached : (ok : ℕ → Bool) (put : ℕ → State → State) (st : State) → ok x.value ≡ true → state_of q out ≡ put x.value st
+        → EmittedAt s (emit_if w ok put st (drop from.next (bits s))) from 0 (Some y) out
+    unfolding emit_if
+    if-reached ok put st t e =
+        reached _ (some_taken _ s from.next w x taken ∙ ap (λ u. pick u (got (put x.value st) (drop x.next (bits s))) fail) t
+        ∙ ap (λ a. got a (drop x.next (bits s))) (sym e))
 
-module _ (s : List ℕ) (pos : ℕ) (c : Places) (room : Room s pos c) (whole : Bool) (x next : ℕ) (h : not whole ≡ false) (p q : Places) (o out : List ℕ) (t : Bool) (n : ℕ)
-    (et : t ≡ true) (ep : p ≡ q) (en : n ≡ next) where
-  pub number_there : (w : ℕ) → TakenNumber s pos (8 * w) whole x next → Stood w (put_number w x (state_of c o)) (state_of q out) c q
-      → EmittedAt s (emit_number (8 * w) (put_number w) (state_of c o) (drop pos (bits s))) pos c 0 t p out n
+module _ (s : List ℕ) (from : Emitted) (room : Room s from) (x : Number) (q : Places) (o out : List ℕ) (y : Emitted)
+    (ey : y ≡ record { places = q; next = x.next }) where
+  pub number_there : (w : ℕ) → NumberAt s from.next (8 * w) x → Stood w (put_number w x.value (state_of from.places o)) (state_of q out) from.places q
+      → EmittedAt s (emit_number (8 * w) (put_number w) (state_of from.places o) (drop from.next (bits s))) from 0 (Some y) out
   number_there w taken u =
       let a = u.at in
-      number-reached s pos (8 * w) c room whole x next taken p out t n h q (room_stood s pos (8 * w) c room whole x next taken h w (omega arith) _ _ q u) (omega arith) et ep en
-      (put_number w) (state_of c o) u.is
+      number-reached s from (8 * w) x taken room q out (room_stood s from room (8 * w) x taken w (omega arith) _ _ q u _ refl) (omega arith) y ey
+      (put_number w) (state_of from.places o) u.is
 
-  pub bit_there : TakenNumber s pos 1 whole x next → BitPut (put_bit x (state_of c o)) (state_of q out) c q
-      → EmittedAt s (emit_number 1 put_bit (state_of c o) (drop pos (bits s))) pos c 0 t p out n
+  pub bit_there : NumberAt s from.next 1 x → BitPut (put_bit x.value (state_of from.places o)) (state_of q out) from.places q
+      → EmittedAt s (emit_number 1 put_bit (state_of from.places o) (drop from.next (bits s))) from 0 (Some y) out
   bit_there taken u =
       let a = u.at in
-      number-reached s pos 1 c room whole x next taken p out t n h q (room_bit s pos 1 c room whole x next taken h (omega arith) _ _ q u) (omega arith) et ep en
-      put_bit (state_of c o) u.is
+      number-reached s from 1 x taken room q out (room_bit s from room 1 x taken (omega arith) _ _ q u _ refl) (omega arith) y ey
+      put_bit (state_of from.places o) u.is
 
-  pub bool_there : TakenNumber s pos 1 whole x next → Stood 1 (put_byte x (state_of c o)) (state_of q out) c q
-      → EmittedAt s (emit_number 1 put_byte (state_of c o) (drop pos (bits s))) pos c 0 t p out n
+  pub bool_there : NumberAt s from.next 1 x → Stood 1 (put_byte x.value (state_of from.places o)) (state_of q out) from.places q
+      → EmittedAt s (emit_number 1 put_byte (state_of from.places o) (drop from.next (bits s))) from 0 (Some y) out
   bool_there taken u =
       let a = u.at in
-      number-reached s pos 1 c room whole x next taken p out t n h q (room_stood s pos 1 c room whole x next taken h 1 (omega arith) _ _ q u) (omega arith) et ep en
-      put_byte (state_of c o) u.is
+      number-reached s from 1 x taken room q out (room_stood s from room 1 x taken 1 (omega arith) _ _ q u _ refl) (omega arith) y ey
+      put_byte (state_of from.places o) u.is
 
-  pub enum_there : (k m : ℕ) → TakenNumber s pos 8 whole x next → m ≡ k → x < m → Stood 1 (put_byte x (state_of c o)) (state_of q out) c q
-      → EmittedAt s (emit_if 8 (below_count k) put_byte (state_of c o) (drop pos (bits s))) pos c 0 t p out n
+  pub enum_there : (k m : ℕ) → NumberAt s from.next 8 x → m ≡ k → x.value < m → Stood 1 (put_byte x.value (state_of from.places o)) (state_of q out) from.places q
+      → EmittedAt s (emit_if 8 (below_count k) put_byte (state_of from.places o) (drop from.next (bits s))) from 0 (Some y) out
   enum_there k m taken em l u =
       let a = u.at in
-      if-reached s pos 8 c room whole x next taken p out t n h q (room_stood s pos 8 c room whole x next taken h 1 (omega arith) _ _ q u) (omega arith) et ep en
-      (below_count k) put_byte (state_of c o) (lt-ltb x k (rw (← em) l)) u.is
+      if-reached s from 8 x taken room q out (room_stood s from room 8 x taken 1 (omega arith) _ _ q u _ refl) (omega arith) y ey
+      (below_count k) put_byte (state_of from.places o) (lt-ltb x.value k (rw (← em) l)) u.is
 
 -- the number is not stored
-module _ (s : List ℕ) (pos : ℕ) (c : Places) (room : Room s pos c) (whole : Bool) (x next : ℕ) (h : not whole ≡ false) (p : Places) (o : List ℕ) (t : Bool) (n : ℕ) where
-  module _ (et : t ≡ true) (ep : p ≡ c) (en : n ≡ next) where
-    pub unknown_there : (k : ℕ) → TakenNumber s pos 8 whole x next → (y : Bool) → y ≡ unknown_enum k x → y ≡ true
-        → EmittedAt s (emit_if 8 (unknown_enum k) put_nothing (state_of c o) (drop pos (bits s))) pos c 0 t p o n
-    unknown_there k taken y ey e =
-        if-reached s pos 8 c room whole x next taken p o t n h c (room_taken s pos 8 c room whole x next taken h) (omega arith) et ep en
-        (unknown_enum k) put_nothing (state_of c o) (sym ey ∙ e) refl
+module _ (s : List ℕ) (from : Emitted) (x : Number) (o : List ℕ) where
+  module _ (room : Room s from) (y : Emitted) (ey : y ≡ record { places = from.places; next = x.next }) where
+    pub unknown_there : (k : ℕ) → NumberAt s from.next 8 x → (t : Bool) → t ≡ unknown_enum k x.value → t ≡ true
+        → EmittedAt s (emit_if 8 (unknown_enum k) put_nothing (state_of from.places o) (drop from.next (bits s))) from 0 (Some y) o
+    unknown_there k taken t et e =
+        if-reached s from 8 x taken room from.places o (room_taken s from room 8 x taken _ refl) (omega arith) y ey
+        (unknown_enum k) put_nothing (state_of from.places o) (sym et ∙ e) refl
 
-    pub choice_there : (S : Schema) (u m : ℕ) → m ≡ length (Sc.cases_of S u) → TakenNumber s pos 16 whole x next → m < x
-        → EmittedAt s (emit_if 16 (above_count (length (Sc.cases_of S u))) put_nothing (state_of c o) (drop pos (bits s))) pos c 0 t p o n
+    pub choice_there : (S : Schema) (u m : ℕ) → m ≡ length (Sc.cases_of S u) → NumberAt s from.next 16 x → m < x.value
+        → EmittedAt s (emit_if 16 (above_count (length (Sc.cases_of S u))) put_nothing (state_of from.places o) (drop from.next (bits s))) from 0 (Some y) o
     choice_there S u m em taken l =
-        if-reached s pos 16 c room whole x next taken p o t n h c (room_taken s pos 16 c room whole x next taken h) (omega arith) et ep en
-        (above_count (length (Sc.cases_of S u))) put_nothing (state_of c o) (lt-ltb (length (Sc.cases_of S u)) x (rw (← em) l)) refl
+        if-reached s from 16 x taken room from.places o (room_taken s from room 16 x taken _ refl) (omega arith) y ey
+        (above_count (length (Sc.cases_of S u))) put_nothing (state_of from.places o) (lt-ltb (length (Sc.cases_of S u)) x.value (rw (← em) l)) refl
 
-  module _ (et : t ≡ false) (ep : p ≡ c) (en : n ≡ pos) where
-    pub enum_fails : (k m : ℕ) → TakenNumber s pos 8 whole x next → m ≡ k → m ≤ x
-        → EmittedAt s (emit_if 8 (below_count k) put_byte (state_of c o) (drop pos (bits s))) pos c 0 t p o n
-    enum_fails k m taken em l = if_fails s pos 8 c room whole x next taken p o t n h (below_count k) put_byte (state_of c o) (le-ltb x k (rw (← em) l)) et ep en
+  pub enum_fails : (k m : ℕ) (st : State) → NumberAt s from.next 8 x → m ≡ k → m ≤ x.value
+      → EmittedAt s (emit_if 8 (below_count k) put_byte st (drop from.next (bits s))) from 0 None o
+  enum_fails k m st taken em l = if_fails s from 8 x taken (below_count k) put_byte st o (le-ltb x.value k (rw (← em) l))
 
-    pub unknown_fails : (k : ℕ) → TakenNumber s pos 8 whole x next → (y : Bool) → y ≡ unknown_enum k x → y ≡ false
-        → EmittedAt s (emit_if 8 (unknown_enum k) put_nothing (state_of c o) (drop pos (bits s))) pos c 0 t p o n
-    unknown_fails k taken y ey e = if_fails s pos 8 c room whole x next taken p o t n h (unknown_enum k) put_nothing (state_of c o) (sym ey ∙ e) et ep en
+  pub unknown_fails : (k : ℕ) (st : State) → NumberAt s from.next 8 x → (t : Bool) → t ≡ unknown_enum k x.value → t ≡ false
+      → EmittedAt s (emit_if 8 (unknown_enum k) put_nothing st (drop from.next (bits s))) from 0 None o
+  unknown_fails k st taken t et e = if_fails s from 8 x taken (unknown_enum k) put_nothing st o (sym et ∙ e)
 
-    pub choice_fails : (S : Schema) (u m : ℕ) → m ≡ length (Sc.cases_of S u) → TakenNumber s pos 16 whole x next → x ≤ m
-        → EmittedAt s (emit_if 16 (above_count (length (Sc.cases_of S u))) put_nothing (state_of c o) (drop pos (bits s))) pos c 0 t p o n
-    choice_fails S u m em taken l =
-        if_fails s pos 16 c room whole x next taken p o t n h (above_count (length (Sc.cases_of S u))) put_nothing (state_of c o)
-        (le-ltb (length (Sc.cases_of S u)) x (rw (← em) l)) et ep en
+  pub choice_fails : (S : Schema) (u m : ℕ) (st : State) → m ≡ length (Sc.cases_of S u) → NumberAt s from.next 16 x → x.value ≤ m
+      → EmittedAt s (emit_if 16 (above_count (length (Sc.cases_of S u))) put_nothing st (drop from.next (bits s))) from 0 None o
+  choice_fails S u m st em taken l =
+      if_fails s from 16 x taken (above_count (length (Sc.cases_of S u))) put_nothing st o (le-ltb (length (Sc.cases_of S u)) x.value (rw (← em) l))
+
+-- ---- marks
+-- `none`, `body` and `unknown` are what the definition goes on with at each
+module _ (s : List ℕ) (from : Emitted) (none : State) (unknown body : List ℕ → Parsed State) where
+  abbrev marked : Parsed State
+  marked = survey_mark none unknown body (drop from.next (bits s))
+
+  pub marks-cut : mark_of (drop from.next (bits s)) ≡ fail → (r : Option Emitted) → r ≡ None → (out : List ℕ) → EmittedAt s marked from 0 r out
+  marks-cut h r er out = refused s _ from 0 (mark_fails none unknown body s from.next h) r er out
+
+  module _ (m : Marked) (taken : MarkedAt s from.next m) where
+    abbrev rest : List ℕ
+    rest = drop m.next (bits s)
+
+    chosen : (k : Mark) → m.mark ≡ k → marked ≡ by_mark k (got none rest) (unknown rest) (body rest)
+    chosen k e = marked_is none unknown body s from.next m taken ∙ ap (λ (j : Mark). by_mark j (got none rest) (unknown rest) (body rest)) e
+
+    pub marks-fail : m.mark ≡ Mark.Unknown → unknown rest ≡ fail → (out : List ℕ) → EmittedAt s marked from 0 None out
+    marks-fail e h out = refused s _ from 0 (chosen Mark.Unknown e ∙ h) None refl out
+
+    module _ (room : Room s from) where
+      -- w bytes at most were put
+      pub marks-none : m.mark ≡ Mark.Absent → (q : Places) (out : List ℕ) → state_of q out ≡ none → Room s (record { places = q; next = m.next })
+          → q.at ≤ from.places.at + 16384 → (y : Emitted) → y ≡ record { places = q; next = m.next } → EmittedAt s marked from 0 (Some y) out
+      marks-none e q out h r l y ey =
+          let f = marked_at s from.next m taken room.here in
+          let g : q.at + 8192 * from.next ≤ from.places.at + 0 + 8192 * m.next = omega arith in
+          arrived s marked from 0 (record { places = q; next = m.next }) out (chosen Mark.Absent e ∙ ap (λ a. got a rest) (sym h))
+          (record { here = r.here; at = g; bool = r.bool; tail = r.tail; next = r.next }) y ey
+
+      -- from behind the mark on
+      module _ (q : Places) (e₁ : ℕ) (l : q.at + e₁ ≤ from.places.at + 16384) (r : Option Emitted) (out : List ℕ) where
+        behind_mark : (d : Parsed State) → marked ≡ d → EmittedAt s d (record { places = q; next = m.next }) e₁ r out → EmittedAt s marked from 0 r out
+        behind_mark d h u =
+            let f = marked_at s from.next m taken room.here in
+            let k : q.at + e₁ + 8192 * from.next ≤ from.places.at + 0 + 8192 * m.next = omega arith in
+            later s marked from 0 d h (record { places = q; next = m.next }) e₁ k r out u
+
+        pub marks-there : m.mark ≡ Mark.Present → EmittedAt s (body rest) (record { places = q; next = m.next }) e₁ r out → EmittedAt s marked from 0 r out
+        marks-there e u = behind_mark (body rest) (chosen Mark.Present e) u
+
+        pub marks-unknown : m.mark ≡ Mark.Unknown → EmittedAt s (unknown rest) (record { places = q; next = m.next }) e₁ r out → EmittedAt s marked from 0 r out
+        marks-unknown e u = behind_mark (unknown rest) (chosen Mark.Unknown e) u
 
 -- ---- an enum's mark
-module _ (s : List ℕ) (pos : ℕ) (c : Places) (room : Room s pos c) (whole : Bool) (x next : ℕ) (taken : TakenNumber s pos 2 whole x next) (h : not whole ≡ false) where
-  pub room-marked : (put now : State) (p : Places) → Stood 1 put now c p → Room s next p
-  room-marked put now p u = room_stood s pos 2 c room whole x next taken h 1 (omega arith) put now p u
+module _ (s : List ℕ) (from : Emitted) (k : ℕ) (o : List ℕ) where
+  abbrev enum_marked : Option Emitted → List ℕ → Type 0
+  enum_marked r out = EmittedAt s (emit_marked_enum k (state_of from.places o) (drop from.next (bits s))) from 0 r out
 
--- from behind the mark on
-behind_mark : (s : List ℕ) (pos : ℕ) (c : Places) → Room s pos c → (whole : Bool) (x next : ℕ) → TakenNumber s pos 2 whole x next → not whole ≡ false
-    → (d : Parsed State) (q : Places) → q.at ≤ c.at + 8192 → (t : Bool) (p : Places) (out : List ℕ) (n : ℕ) → EmittedAt s d next q 0 t p out n → EmittedAt s d pos c 0 t p out n
-behind_mark s pos c room whole x next taken h d q l t p out n e =
-    let f = taken_at s pos 2 whole x next taken room.here h in
-    let g = e.at in
-    record { is = e.is; here = e.here; at = omega arith; bool = e.bool; tail = e.tail; next = e.next }
+  pub mark-cut : mark_of (drop from.next (bits s)) ≡ fail → (r : Option Emitted) → r ≡ None → (out : List ℕ) → enum_marked r out
+  unfolding emit_marked_enum
+  mark-cut h r er out = marks-cut s from _ _ _ h r er out
 
-module _ (s : List ℕ) (pos k : ℕ) (c : Places) (room : Room s pos c) (whole : Bool) (x next : ℕ) (taken : TakenNumber s pos 2 whole x next) (o : List ℕ) (t : Bool) (p : Places)
-    (out : List ℕ) (n : ℕ) where
-  pub mark-cut : not whole ≡ true → t ≡ false → p ≡ c → n ≡ pos → EmittedAt s (emit_marked_enum k (state_of c o) (drop pos (bits s))) pos c 0 t p out n
-  unfolding emit_marked_enum survey_mark bind
-  mark-cut h et ep en = refused s _ pos c 0 (rw (taken.number, not-true whole h)) room t p out n et ep en
-
-  module _ (h : not whole ≡ false) where
-    chosen : emit_marked_enum k (state_of c o) (drop pos (bits s))
-        ≡ pick (eqb x 0) (got (put_byte 255 (state_of c o)) (drop next (bits s)))
-        (pick (eqb x 1) (emit_if 8 (below_count k) put_byte (state_of c o) (drop next (bits s)))
-        (pick (eqb x 2) (emit_if 8 (unknown_enum k) put_nothing (put_byte 255 (state_of c o)) (drop next (bits s))) fail))
-    unfolding emit_marked_enum survey_mark bind
-    chosen = rw (taken.number, not-false whole h)
-
-    pub mark_none : x ≡ 0 → (q : Places) → Stood 1 (put_byte 255 (state_of c o)) (state_of q out) c q → t ≡ true → p ≡ q → n ≡ next
-        → EmittedAt s (emit_marked_enum k (state_of c o) (drop pos (bits s))) pos c 0 t p out n
-    mark_none e q u et ep en =
+  module _ (m : Marked) (taken : MarkedAt s from.next m) (room : Room s from) where
+    pub mark_none : m.mark ≡ Mark.Absent → (q : Places) (out : List ℕ) → Stood 1 (put_byte 255 (state_of from.places o)) (state_of q out) from.places q
+        → (y : Emitted) → y ≡ record { places = q; next = m.next } → enum_marked (Some y) out
+    unfolding emit_marked_enum
+    mark_none e q out u y ey =
         let a = u.at in
-        reached s pos 2 c room whole x next taken p out t n h q (room_stood s pos 2 c room whole x next taken h 1 (omega arith) _ _ q u) (omega arith) et ep en _
-        (chosen ∙ simp (eq-eqb x 0 e) (ap (λ a. got a (drop next (bits s))) (sym u.is)))
+        marks-none s from _ _ _ m taken room e q out u.is (room-byte s from room m taken _ _ q u _ refl) (omega arith) y ey
 
-    module _ (h0 : x ≡ 0 → ⊥) where
-      pub mark-known : x ≡ 1 → EmittedAt s (emit_if 8 (below_count k) put_byte (state_of c o) (drop next (bits s))) next c 0 t p out n
-          → EmittedAt s (emit_marked_enum k (state_of c o) (drop pos (bits s))) pos c 0 t p out n
-      mark-known e u =
-          behind_mark s pos c room whole x next taken h _ c (omega arith) t p out n
-          (subst (λ d. EmittedAt s d next c 0 t p out n) (sym (chosen ∙ simp (ne_eqb x 0 h0, eq-eqb x 1 e))) u)
+    pub mark-known : m.mark ≡ Mark.Present → (g : Emitted) → g ≡ record { places = from.places; next = m.next } → (r : Option Emitted) (out : List ℕ)
+        → EmittedAt s (emit_if 8 (below_count k) put_byte (state_of g.places o) (drop g.next (bits s))) g 0 r out → enum_marked r out
+    unfolding emit_marked_enum
+    mark-known e g eg r out u =
+        marks-there s from _ _ _ m taken room from.places 0 (omega arith) r out e
+        (subst (λ (z : Emitted). EmittedAt s (emit_if 8 (below_count k) put_byte (state_of z.places o) (drop z.next (bits s))) z 0 r out) eg u)
 
-      module _ (h1 : x ≡ 1 → ⊥) where
-        pub mark-unknown : x ≡ 2 → (q : Places) (o₁ : List ℕ) → Stood 1 (put_byte 255 (state_of c o)) (state_of q o₁) c q
-            → EmittedAt s (emit_if 8 (unknown_enum k) put_nothing (state_of q o₁) (drop next (bits s))) next q 0 t p out n
-            → EmittedAt s (emit_marked_enum k (state_of c o) (drop pos (bits s))) pos c 0 t p out n
-        mark-unknown e q o₁ v u =
-            let a = v.at in
-            behind_mark s pos c room whole x next taken h _ q (omega arith) t p out n
-            (subst (λ d. EmittedAt s d next q 0 t p out n)
-            (sym (chosen ∙ simp (ne_eqb x 0 h0, ne_eqb x 1 h1, eq-eqb x 2 e) (ap (λ a. emit_if 8 (unknown_enum k) put_nothing a (drop next (bits s))) (sym v.is)))) u)
-
-        pub mark_bad : (x ≡ 2 → ⊥) → t ≡ false → p ≡ c → n ≡ pos → EmittedAt s (emit_marked_enum k (state_of c o) (drop pos (bits s))) pos c 0 t p out n
-        mark_bad h2 et ep en = refused s _ pos c 0 (chosen ∙ simp (ne_eqb x 0 h0, ne_eqb x 1 h1, ne_eqb x 2 h2)) room t p out n et ep en
+    pub mark-unknown : m.mark ≡ Mark.Unknown → (q : Places) (o₁ : List ℕ) → Stood 1 (put_byte 255 (state_of from.places o)) (state_of q o₁) from.places q
+        → (g : Emitted) → g ≡ record { places = q; next = m.next } → (r : Option Emitted) (out : List ℕ)
+        → EmittedAt s (emit_if 8 (unknown_enum k) put_nothing (state_of g.places o₁) (drop g.next (bits s))) g 0 r out → enum_marked r out
+    unfolding emit_marked_enum
+    mark-unknown e q o₁ v g eg r out u =
+        let a = v.at in
+        marks-unknown s from _ _ _ m taken room q 0 (omega arith) r out e
+        (subst (λ (z : State). EmittedAt s (emit_if 8 (unknown_enum k) put_nothing z (drop m.next (bits s))) (record { places = q; next = m.next }) 0 r out) v.is
+        (subst (λ (z : Emitted). EmittedAt s (emit_if 8 (unknown_enum k) put_nothing (state_of z.places o₁) (drop z.next (bits s))) z 0 r out) eg u))
 
 -- ---- a float's mark
-module _ (s : List ℕ) (pos k : ℕ) (c : Places) (room : Room s pos c) (whole : Bool) (x next : ℕ) (taken : TakenNumber s pos 2 whole x next) (o : List ℕ) (t : Bool) (p : Places)
-    (out : List ℕ) (n : ℕ) where
-  pub float_cut : not whole ≡ true → t ≡ false → p ≡ c → n ≡ pos → EmittedAt s (emit_marked_float k (state_of c o) (drop pos (bits s))) pos c 0 t p out n
-  unfolding emit_marked_float survey_mark bind
-  float_cut h et ep en = refused s _ pos c 0 (rw (taken.number, not-true whole h)) room t p out n et ep en
+module _ (s : List ℕ) (from : Emitted) (k : ℕ) (o : List ℕ) where
+  abbrev float_marked : Option Emitted → List ℕ → Type 0
+  float_marked r out = EmittedAt s (emit_marked_float k (state_of from.places o) (drop from.next (bits s))) from 0 r out
 
-  module _ (h : not whole ≡ false) where
-    float_is : emit_marked_float k (state_of c o) (drop pos (bits s))
-        ≡ pick (eqb x 0) (got (put_number k (no_float k) (state_of c o)) (drop next (bits s)))
-        (pick (eqb x 1) (emit_number (8 * k) (put_number k) (state_of c o) (drop next (bits s))) (pick (eqb x 2) fail fail))
-    unfolding emit_marked_float survey_mark bind
-    float_is = rw (taken.number, not-false whole h)
+  pub float_cut : mark_of (drop from.next (bits s)) ≡ fail → (r : Option Emitted) → r ≡ None → (out : List ℕ) → float_marked r out
+  unfolding emit_marked_float
+  float_cut h r er out = marks-cut s from _ _ _ h r er out
 
-    pub float_none : x ≡ 0 → k ≤ 8 → (j v : ℕ) → j ≡ k → v ≡ no_float k → (q : Places) → Stood j (put_number j v (state_of c o)) (state_of q out) c q → t ≡ true → p ≡ q → n ≡ next
-        → EmittedAt s (emit_marked_float k (state_of c o) (drop pos (bits s))) pos c 0 t p out n
-    float_none e l j v ej ev q u et ep en =
+  module _ (m : Marked) (taken : MarkedAt s from.next m) where
+    pub float_none : Room s from → m.mark ≡ Mark.Absent → k ≤ 8 → (j v : ℕ) → j ≡ k → v ≡ no_float k → (q : Places) (out : List ℕ)
+        → Stood j (put_number j v (state_of from.places o)) (state_of q out) from.places q
+        → (y : Emitted) → y ≡ record { places = q; next = m.next } → float_marked (Some y) out
+    unfolding emit_marked_float
+    float_none room e l j v ej ev q out u y ey =
         let a = u.at in
-        reached s pos 2 c room whole x next taken p out t n h q (room_stood s pos 2 c room whole x next taken h j (omega arith) _ _ q u) (omega arith) et ep en _
-        (float_is ∙ simp (eq-eqb x 0 e)
-        (ap (λ a. got a (drop next (bits s))) (sym (u.is ∙ ap (λ (i : ℕ). put_number i v (state_of c o)) ej ∙ ap (λ (z : ℕ). put_number k z (state_of c o)) ev))))
+        marks-none s from _ _ _ m taken room e q out
+        (u.is ∙ ap (λ (i : ℕ). put_number i v (state_of from.places o)) ej ∙ ap (λ (z : ℕ). put_number k z (state_of from.places o)) ev)
+        (room_marked s from room m taken _ _ q j (omega arith) u _ refl) (omega arith) y ey
 
-    module _ (h0 : x ≡ 0 → ⊥) where
-      pub float_there : x ≡ 1 → (j : ℕ) → j ≡ k → EmittedAt s (emit_number (8 * j) (put_number j) (state_of c o) (drop next (bits s))) next c 0 t p out n
-          → EmittedAt s (emit_marked_float k (state_of c o) (drop pos (bits s))) pos c 0 t p out n
-      float_there e j ej u =
-          behind_mark s pos c room whole x next taken h _ c (omega arith) t p out n
-          (subst (λ d. EmittedAt s d next c 0 t p out n)
-          (sym (float_is ∙ simp (ne_eqb x 0 h0, eq-eqb x 1 e) (ap (λ (i : ℕ). emit_number (8 * i) (put_number i) (state_of c o) (drop next (bits s))) (sym ej)))) u)
+    pub float_there : Room s from → m.mark ≡ Mark.Present → (j : ℕ) → j ≡ k → (g : Emitted) → g ≡ record { places = from.places; next = m.next } → (r : Option Emitted) (out : List ℕ)
+        → EmittedAt s (emit_number (8 * j) (put_number j) (state_of g.places o) (drop g.next (bits s))) g 0 r out → float_marked r out
+    unfolding emit_marked_float
+    float_there room e j ej g eg r out u =
+        marks-there s from _ _ _ m taken room from.places 0 (omega arith) r out e
+        (subst (λ (i : ℕ). EmittedAt s (emit_number (8 * i) (put_number i) (state_of from.places o) (drop m.next (bits s))) (record { places = from.places; next = m.next }) 0 r out) ej
+        (subst (λ (z : Emitted). EmittedAt s (emit_number (8 * j) (put_number j) (state_of z.places o) (drop z.next (bits s))) z 0 r out) eg u))
 
-      pub float_bad : (x ≡ 1 → ⊥) → t ≡ false → p ≡ c → n ≡ pos → EmittedAt s (emit_marked_float k (state_of c o) (drop pos (bits s))) pos c 0 t p out n
-      float_bad h1 et ep en = refused s _ pos c 0 (float_is ∙ simp (ne_eqb x 0 h0, ne_eqb x 1 h1) (by (eqb x 2))) room t p out n et ep en
-        where
-          by : (u : Bool) → ◌≡◌ {A = Parsed State} (pick u fail fail) fail
-          by true = refl
-          by false = refl
+    pub float_bad : m.mark ≡ Mark.Unknown → (out : List ℕ) → float_marked None out
+    unfolding emit_marked_float
+    float_bad e out = marks-fail s from _ _ _ m taken e refl out
 
 -- ---- elements that lead to no object
-module _ (S : Schema) (s : List ℕ) (f : Flat) (c : Places) (st : State) (pos : ℕ) (t : Bool) (p : Places) (out : List ℕ) (n : ℕ) where
-  pub marked_float : (w : ℕ) → f ≡ Float w → EmittedAt s (emit_marked_float w st (drop pos (bits s))) pos c 0 t p out n → EmittedAt s (emit_marked_flat S f st (drop pos (bits s))) pos c 0 t p out n
+module _ (S : Schema) (s : List ℕ) (f : Flat) (st : State) (from : Emitted) (r : Option Emitted) (out : List ℕ) where
+  pub marked_float : (w : ℕ) → f ≡ Float w → EmittedAt s (emit_marked_float w st (drop from.next (bits s))) from 0 r out
+      → EmittedAt s (emit_marked_flat S f st (drop from.next (bits s))) from 0 r out
   unfolding emit_marked_float emit_marked_flat survey_mark lack_flat pass_flat emit_flat
   marked_float w e u = rw e u
 
-  pub marked-enum : (m : ℕ) → f ≡ Enumerated m → EmittedAt s (emit_marked_enum m st (drop pos (bits s))) pos c 0 t p out n → EmittedAt s (emit_marked_flat S f st (drop pos (bits s))) pos c 0 t p out n
+  pub marked-enum : (m : ℕ) → f ≡ Enumerated m → EmittedAt s (emit_marked_enum m st (drop from.next (bits s))) from 0 r out
+      → EmittedAt s (emit_marked_flat S f st (drop from.next (bits s))) from 0 r out
   unfolding emit_marked_enum emit_marked_flat survey_mark lack_flat pass_flat emit_flat
   marked-enum m e u = rw e u
 
-  pub marked_boolean : f ≡ Boolean → flat_unmarked f ≡ false → EmittedAt s (emit_marked_flat S f st (drop pos (bits s))) pos c 0 t p out n
+  -- no other has a mark
+  pub marked_none : FlatScalar f → flat_unmarked f ≡ false → ((w : ℕ) → f ≡ Float w → ⊥) → ((m : ℕ) → f ≡ Enumerated m → ⊥)
+      → EmittedAt s (emit_marked_flat S f st (drop from.next (bits s))) from 0 r out
   unfolding flat_unmarked
-  marked_boolean e h = never (sym (subst (λ (g : Flat). flat_unmarked g ≡ false) e h))
-
-  pub marked_integer : (g : Bool) (w : ℕ) → f ≡ Integer g w → flat_unmarked f ≡ false → EmittedAt s (emit_marked_flat S f st (drop pos (bits s))) pos c 0 t p out n
-  unfolding flat_unmarked
-  marked_integer g w e h = never (sym (subst (λ (q : Flat). flat_unmarked q ≡ false) e h))
-
-  pub marked-struct : (i : ℕ) → f ≡ Struct i → FlatScalar f → EmittedAt s (emit_marked_flat S f st (drop pos (bits s))) pos c 0 t p out n
-  marked-struct i e h = absurd (subst FlatScalar e h)
+  marked_none sound h no_float no-enum = absurd (by f sound h no_float no-enum)
+    where
+      by : (g : Flat) → FlatScalar g → flat_unmarked g ≡ false → ((w : ℕ) → g ≡ Float w → ⊥) → ((m : ℕ) → g ≡ Enumerated m → ⊥) → ⊥
+      by Boolean a e u v = never (sym e)
+      by (Integer g w) a e u v = never (sym e)
+      by (Float w) a e u v = u w refl
+      by (Enumerated m) a e u v = v m refl
+      by (Struct i) a e u v = a
 
 -- ---- runs of bytes
-abbrev remains : Parsed (List ℕ) → List ℕ
-remains fail = []
-remains (got a xs) = xs
-
-abbrev whole_bytes : Parsed (List ℕ) → Bool
-whole_bytes fail = false
-whole_bytes (got a xs) = true
-
-bytes-at : (s : List ℕ) (pos n : ℕ) (whole : Bool) (next : ℕ) → TakenBytes s pos n whole next → pos ≤ 8 * length s → not whole ≡ false → next ≡ pos + 8 * n
+bytes-at : (s : List ℕ) (pos n next : ℕ) → BytesAt s pos n next → pos ≤ 8 * length s → next ≡ pos + 8 * n
 unfolding take_bytes
-bytes-at s pos n whole next t l h =
-    by (leb (8 * n) (length (drop pos (bits s)))) refl
-    (t.bytes ∙ ap (λ (u : Bool). pick u (got (pack n (drop pos (bits s))) (drop next (bits s))) fail) (not-false whole h))
+bytes-at s pos n next t l = by (leb (8 * n) (length (drop pos (bits s)))) refl t.bytes
   where
     by : (u : Bool) → leb (8 * n) (length (drop pos (bits s))) ≡ u
         → pick u (got (pack n (drop pos (bits s))) (drop (8 * n) (drop pos (bits s)))) fail ≡ got (pack n (drop pos (bits s))) (drop next (bits s)) → next ≡ pos + 8 * n
-    by false e f = absurd (false≢true (ap whole_bytes f))
+    by false e f = absurd (false≢true (ap whether f))
     by true e f =
         let m : 8 * n ≤ length (drop pos (bits s)) = leb-true (8 * n) (length (drop pos (bits s))) e in
         let k : length (drop (8 * n) (drop pos (bits s))) ≡ length (drop next (bits s)) = ap (λ (p : Parsed (List ℕ)). length (remains p)) f in
@@ -284,55 +294,51 @@ bytes-at s pos n whole next t l h =
         let z = bits-length s in
         omega arith
 
-module _ (s : List ℕ) (pos : ℕ) (c : Places) (room : Room s pos c) (whole : Bool) (x mid : ℕ) (taken : TakenNumber s pos 32 whole x mid) (more o : List ℕ) (t : Bool) (p : Places)
-    (out : List ℕ) (n : ℕ) where
-  pub blob-cut : not whole ≡ true → t ≡ false → p ≡ c → n ≡ pos → EmittedAt s (emit_blob more (state_of c o) (drop pos (bits s))) pos c 0 t p out n
-  unfolding emit_blob bind
-  blob-cut h et ep en = refused s _ pos c 0 (rw (taken.number, not-true whole h)) room t p out n et ep en
+pub bytes_in : (s : List ℕ) (pos n next : ℕ) → BytesAt s pos n next → pos ≤ 8 * length s → pos + 8 * n ≤ 8 * length s
+bytes_in s pos n next t l = let e = bytes-at s pos n next t l in let i = t.inside in omega arith
 
-  pub blob_short : not whole ≡ false → (whole₁ : Bool) (next : ℕ) → TakenBytes s mid x whole₁ next → not whole₁ ≡ true → t ≡ false → p ≡ c → n ≡ pos
-      → EmittedAt s (emit_blob more (state_of c o) (drop pos (bits s))) pos c 0 t p out n
-  unfolding emit_blob bind
-  blob_short h whole₁ next bs g et ep en = refused s _ pos c 0 (rw (taken.number, not-false whole h, bs.bytes, not-true whole₁ g)) room t p out n et ep en
-
-pub blob_there : (s : List ℕ) (pos : ℕ) (c : Places) → Room s pos c → (whole : Bool) (x mid : ℕ) → TakenNumber s pos 32 whole x mid → not whole ≡ false
-    → (whole₁ : Bool) (next : ℕ) → TakenBytes s mid x whole₁ next → not whole₁ ≡ false → (o out : List ℕ) (q : Places)
-    → Stood x (put_bytes (pack x (drop mid (bits s))) (state_of c o)) (state_of q out) c q → (t : Bool) (p : Places) (n : ℕ) → t ≡ true → p ≡ q → n ≡ next
-    → EmittedAt s (emit_blob [] (state_of c o) (drop pos (bits s))) pos c 0 t p out n
-unfolding emit_blob bind
-blob_there s pos c room whole x mid taken h whole₁ next bs g o out q u t p n et ep en =
-    let f = taken_at s pos 32 whole x mid taken room.here h in
-    let i = taken.inside in
-    let e = bytes-at s mid x whole₁ next bs i g in
-    let a = u.at in
-    let l : q.at + 8192 * pos ≤ c.at + 0 + 8192 * next = omega arith in
-    record {
-      is = ap (λ d. bind d (λ m ys. bind (take_bytes m ys) (λ l zs. got (put_bytes [] (put_bytes l (state_of c o))) zs)))
-          (taken.number ∙ ap (λ y. pick y (got x (drop mid (bits s))) fail) (not-false whole h))
-          ∙ ap (λ d. bind d (λ l zs. got (put_bytes [] (put_bytes l (state_of c o))) zs))
-          (bs.bytes ∙ ap (λ y. pick y (got (pack x (drop mid (bits s))) (drop next (bits s))) fail) (not-false whole₁ g))
-          ∙ ap (λ a. got a (drop next (bits s))) (put_none (put_bytes (pack x (drop mid (bits s))) (state_of c o)) ∙ sym u.is) ∙ sym (rw (et, ep, en));
-      here = rw en bs.inside;
-      at = rw (ep, en) l;
-      bool = rw ep (held_same c q room.bool u.free u.held);
-      tail = rw (ep, u.tail) room.tail;
-      next = rw (ep, u.next) room.next;
-    }
+-- behind a number
+pub bytes_behind : (s : List ℕ) (pos : ℕ) (x : Number) → NumberAt s pos 32 x → (next : ℕ) → BytesAt s x.next x.value next → x.next + 8 * x.value ≤ 8 * length s
+bytes_behind s pos x taken next t = bytes_in s x.next x.value next t taken.inside
 
 -- stored, whatever places are there
-module _ (s : List ℕ) (pos to : ℕ) (whole : Bool) (x mid : ℕ) (taken : TakenNumber s pos 32 whole x mid) (o : List ℕ) where
-  pub copied-cut : not whole ≡ true → CopiedAt s o pos to false 0 pos o
-  copied-cut h = record { is = λ c room e. blob-cut s pos c room whole x mid taken [] o false c o pos h refl refl refl; small = omega arith }
+module _ (s : List ℕ) (pos to : ℕ) (o : List ℕ) where
+  abbrev blob_after : Emitted → Parsed State
+  blob_after from = emit_blob [] (state_of from.places o) (drop pos (bits s))
 
-  module _ (h : not whole ≡ false) (whole₁ : Bool) (next : ℕ) (bs : TakenBytes s mid x whole₁ next) where
-    pub copied_short : not whole₁ ≡ true → CopiedAt s o pos to false 0 pos o
-    copied_short g = record { is = λ c room e. blob_short s pos c room whole x mid taken [] o false c o pos h whole₁ next bs g refl refl refl; small = omega arith }
+  pub copied-cut : take_number 32 (drop pos (bits s)) ≡ fail → (r : Option Copied) → r ≡ None → CopiedAt s o pos to r o
+  unfolding emit_blob
+  copied-cut h r er = rw er (record { is = λ from room ep et. refused s (blob_after from) from 0 (none_taken _ 32 _ h) None refl o; small = tt })
 
-    pub copied_there : not whole₁ ≡ false → (out : List ℕ) → out ≡ sets o to (pack x (drop mid (bits s))) → CopiedAt s o pos to true x next out
-    copied_there g out f =
+  module _ (x : Number) (taken : NumberAt s pos 32 x) where
+    pub copied_short : take_bytes x.value (drop x.next (bits s)) ≡ fail → (r : Option Copied) → r ≡ None → CopiedAt s o pos to r o
+    unfolding emit_blob bind
+    copied_short h r er =
+        rw er (record {
+          is = λ from room ep et. refused s (blob_after from) from 0
+              (some_taken _ s pos 32 x taken ∙ ap (λ d. bind d (λ l zs. got (put_bytes [] (put_bytes l (state_of from.places o))) zs)) h) None refl o;
+          small = tt;
+        })
+
+    pub copied_there : (next : ℕ) → BytesAt s x.next x.value next → (out : List ℕ) → out ≡ sets o to (pack x.value (drop x.next (bits s)))
+        → CopiedAt s o pos to (Some (record { length = x.value; next = next })) out
+    unfolding emit_blob bind
+    copied_there next bs out f =
         record {
-          is = λ c room e. blob_there s pos c room whole x mid taken h whole₁ next bs g o out (forward x c)
-              (copy_put c (forward x c) o out x (drop mid (bits s)) (f ∙ ap (λ (k : ℕ). sets o k (pack x (drop mid (bits s)))) (sym e)) refl) true (forward x c) next refl refl refl;
+          is = λ from room ep et.
+              (let c = from.places in
+              let q = forward x.value c in
+              let u = copy_put c q o out x.value (drop x.next (bits s)) (f ∙ ap (λ (k : ℕ). sets o k (pack x.value (drop x.next (bits s)))) (sym et)) refl in
+              let i = taken.inside in
+              let h = room.here in
+              let g = taken_at s pos 32 x taken (omega arith) in
+              let e = bytes-at s x.next x.value next bs i in
+              let a = u.at in
+              let l : q.at + 8192 * from.next ≤ c.at + 0 + 8192 * next = omega arith in
+              arrived s (blob_after from) from 0 (record { places = q; next = next }) out
+              (some_taken _ s pos 32 x taken ∙ ap (λ d. bind d (λ l zs. got (put_bytes [] (put_bytes l (state_of c o))) zs)) bs.bytes
+              ∙ ap (λ a. got a (drop next (bits s))) (put_none (put_bytes (pack x.value (drop x.next (bits s))) (state_of c o)) ∙ sym u.is))
+              (record { here = bs.inside; at = l; bool = held_same c q room.bool u.free u.held; tail = rw u.tail room.tail; next = rw u.next room.next }) _ refl);
           small = taken.small;
         }
 
@@ -341,25 +347,17 @@ abbrev stands : Parsed State → State → State
 stands fail st = st
 stands (got a xs) st = a
 
-abbrev whole-state : Parsed State → Bool
-whole-state fail = false
-whole-state (got a xs) = true
-
-abbrev rest : Parsed State → List ℕ
-rest fail = []
-rest (got a xs) = xs
-
 blob_paid : (st st' : State) (xs zs : List ℕ) → emit_blob [] st xs ≡ got st' zs → (8 * st'.at + length zs + 32 ≡ 8 * st.at + length xs)
 unfolding emit_blob take_number take_bytes bind put_bytes
 blob_paid st st' xs zs = by (leb 32 (length xs)) refl
   where
     go : (n : ℕ) (ys : List ℕ) (u : Bool) → leb (8 * n) (length ys) ≡ u
         → bind (pick u (got (pack n ys) (drop (8 * n) ys)) fail) (λ l zs. got (put_bytes [] (put_bytes l st)) zs) ≡ got st' zs → 8 * st'.at + length zs ≡ 8 * st.at + length ys
-    go n ys false e f = absurd (false≢true (ap whole-state f))
+    go n ys false e f = absurd (false≢true (ap whether f))
     go n ys true e f =
         let m = leb-true (8 * n) (length ys) e in
         let a : st.at + length (pack n ys) + 0 ≡ st'.at = ap (λ (d : Parsed State). (stands d st).at) f in
-        let z : length (drop (8 * n) ys) ≡ length zs = ap (λ (d : Parsed State). length (rest d)) f in
+        let z : length (drop (8 * n) ys) ≡ length zs = ap (λ (d : Parsed State). length (remains d)) f in
         let q = length-drop (8 * n) ys in
         let y = pack-length n ys in
         omega arith
@@ -368,7 +366,7 @@ blob_paid st st' xs zs = by (leb 32 (length xs)) refl
         → bind (pick u (got (value (take 32 xs)) (drop 32 xs)) fail)
         (λ n ys. bind (pick (leb (8 * n) (length ys)) (got (pack n ys) (drop (8 * n) ys)) fail) (λ l zs. got (put_bytes [] (put_bytes l st)) zs)) ≡ got st' zs
         → 8 * st'.at + length zs + 32 ≡ 8 * st.at + length xs
-    by false e f = absurd (false≢true (ap whole-state f))
+    by false e f = absurd (false≢true (ap whether f))
     by true e f =
         let m = leb-true 32 (length xs) e in
         let a = go (value (take 32 xs)) (drop 32 xs) (leb (8 * value (take 32 xs)) (length (drop 32 xs))) refl f in
@@ -389,68 +387,48 @@ blob_more more st xs = by (take_number 32 xs)
     by fail = refl
     by (got n ys) = go (take_bytes n ys)
 
-module _ (s : List ℕ) (pos : ℕ) (c : Places) (room : Room s pos c) (o o₁ : List ℕ) (whole : Bool) (q : Places) (next : ℕ)
-    (e : EmittedAt s (emit_blob [] (state_of c o) (drop pos (bits s))) pos c 0 whole q o₁ next) where
-  pub text_low : q.at < 2 ^ 61
-  text_low = room-below s next q (room-part s pos c room _ whole q o₁ next e)
-
-  pub text-cut : not whole ≡ true → (t : Bool) (p : Places) (out : List ℕ) (n : ℕ) → t ≡ false → p ≡ c → n ≡ pos
-      → EmittedAt s (emit_blob (0 ∷ []) (state_of c o) (drop pos (bits s))) pos c 0 t p out n
-  unfolding bind
-  text-cut h t p out n et ep en =
-      refused s _ pos c 0 (blob_more (0 ∷ []) (state_of c o) (drop pos (bits s)) ∙ rw (e.is, not-true whole h)) room t p out n et ep en
-
-  pub text_there : not whole ≡ false → (r : Places) (out : List ℕ) → Stood 1 (put_byte 0 (state_of q o₁)) (state_of r out) q r → (t : Bool) (p : Places) (n : ℕ)
-      → t ≡ true → p ≡ r → n ≡ next → EmittedAt s (emit_blob (0 ∷ []) (state_of c o) (drop pos (bits s))) pos c 0 t p out n
-  unfolding bind put_byte
-  text_there h r out u t p n et ep en =
-      let got_it : emit_blob [] (state_of c o) (drop pos (bits s)) ≡ got (state_of q o₁) (drop next (bits s)) = e.is ∙ ap (λ y. pick y (got (state_of q o₁) (drop next (bits s))) fail) (not-false whole h) in
-      let paid = blob_paid (state_of c o) (state_of q o₁) (drop pos (bits s)) (drop next (bits s)) got_it in
-      let a = length-drop pos (bits s) in
-      let b = length-drop next (bits s) in
-      let z = bits-length s in
-      let i = e.here in
-      let j = room.here in
-      let f = u.at in
-      let l : r.at + 8192 * pos ≤ c.at + 0 + 8192 * next = omega arith in
-      record {
-        is = blob_more (0 ∷ []) (state_of c o) (drop pos (bits s)) ∙ ap (λ d. bind d (λ a zs. got (put_bytes (0 ∷ []) a) zs)) got_it
-            ∙ ap (λ a. got a (drop next (bits s))) (sym u.is) ∙ sym (rw (et, ep, en));
-        here = rw en i;
-        at = rw (ep, en) l;
-        bool = rw ep (held_same q r e.bool u.free u.held);
-        tail = rw (ep, u.tail) e.tail;
-        next = rw (ep, u.next) e.next;
-      }
-
 -- ---- by what was copied
-module _ (s : List ℕ) (pos : ℕ) (c : Places) (room : Room s pos c) (o : List ℕ) (whole : Bool) (n next : ℕ) (o₁ : List ℕ) (k : CopiedAt s o pos c.at whole n next o₁) where
-  pub copied_fits : c.at + n < 2 ^ 64
-  copied_fits = let l = k.small in let b = room-below s pos c room in omega arith
+module _ (s : List ℕ) (from : Emitted) (room : Room s from) (o o₁ : List ℕ) where
+  pub bytes_cut : CopiedAt s o from.next from.places.at None o₁ → (r : Option Emitted) → r ≡ None
+      → EmittedAt s (emit_blob [] (state_of from.places o) (drop from.next (bits s))) from 0 r o₁
+  bytes_cut k r er = rw er (k.is from room refl refl)
 
-  pub bytes_cut : not whole ≡ true → (t : Bool) (p : Places) (m : ℕ) → t ≡ false → p ≡ c → m ≡ pos
-      → EmittedAt s (emit_blob [] (state_of c o) (drop pos (bits s))) pos c 0 t p o₁ m
-  bytes_cut h t p m et ep em =
-      refused s _ pos c 0 ((k.is c room refl).is ∙ ap (λ (u : Bool). pick u (got (state_of (pick whole (forward n c) c) o₁) (drop next (bits s))) fail) (not-true whole h)) room t p o₁ m et ep em
+  pub text-not : CopiedAt s o from.next from.places.at None o₁ → (r : Option Emitted) → r ≡ None
+      → EmittedAt s (emit_blob (0 ∷ []) (state_of from.places o) (drop from.next (bits s))) from 0 r o₁
+  text-not k r er =
+      refused s _ from 0 (blob_more (0 ∷ []) (state_of from.places o) (drop from.next (bits s)) ∙ part_fails s _ from 0 o₁ _ (k.is from room refl refl)) r er o₁
 
-  pub text-not : not whole ≡ true → (t : Bool) (p : Places) (m : ℕ) → t ≡ false → p ≡ c → m ≡ pos
-      → EmittedAt s (emit_blob (0 ∷ []) (state_of c o) (drop pos (bits s))) pos c 0 t p o₁ m
-  text-not h t p m et ep em = text-cut s pos c room o o₁ whole (pick whole (forward n c) c) next (k.is c room refl) h t p o₁ m et ep em
+  module _ (x : Copied) (k : CopiedAt s o from.next from.places.at (Some x) o₁) where
+    pub copied_fits : from.places.at + x.length < 2 ^ 64
+    copied_fits = let l = k.small in let b = room-below s from room in omega arith
 
-  module _ (h : not whole ≡ false) (q : Places) (eq : q ≡ forward n c) where
-    there : EmittedAt s (emit_blob [] (state_of c o) (drop pos (bits s))) pos c 0 true (forward n c) o₁ next
-    there = subst (λ (u : Bool). EmittedAt s (emit_blob [] (state_of c o) (drop pos (bits s))) pos c 0 u (pick u (forward n c) c) o₁ next) (not-false whole h) (k.is c room refl)
+    module _ (q : Places) (eq : q ≡ forward x.length from.places) where
+      there : EmittedAt s (emit_blob [] (state_of from.places o) (drop from.next (bits s))) from 0 (Some (record { places = q; next = x.next })) o₁
+      there = rw eq (k.is from room refl refl)
 
-    pub bytes_there : (t : Bool) (p : Places) (m : ℕ) → t ≡ true → p ≡ q → m ≡ next → EmittedAt s (emit_blob [] (state_of c o) (drop pos (bits s))) pos c 0 t p o₁ m
-    bytes_there t p m et ep em = rw (et, ep, em, eq) there
+      pub bytes_there : (y : Emitted) → y ≡ record { places = q; next = x.next }
+          → EmittedAt s (emit_blob [] (state_of from.places o) (drop from.next (bits s))) from 0 (Some y) o₁
+      bytes_there y ey = rw ey there
 
-    pub text_at : q.at < 2 ^ 61
-    text_at = rw eq (text_low s pos c room o o₁ true (forward n c) next there)
+      pub text_at : q.at < 2 ^ 61
+      text_at = room-below s (record { places = q; next = x.next }) (room-part s from room _ _ o₁ there)
 
-    pub text_done : (r : Places) (out : List ℕ) → Stood 1 (put_byte 0 (state_of q o₁)) (state_of r out) q r → (t : Bool) (p : Places) (m : ℕ) → t ≡ true → p ≡ r → m ≡ next
-        → EmittedAt s (emit_blob (0 ∷ []) (state_of c o) (drop pos (bits s))) pos c 0 t p out m
-    text_done r out u t p m et ep em =
-        text_there s pos c room o o₁ true (forward n c) next there refl r out (subst (λ (z : Places). Stood 1 (put_byte 0 (state_of z o₁)) (state_of r out) z r) eq u) t p m et ep em
+      pub text_done : (p : Places) (out : List ℕ) → Stood 1 (put_byte 0 (state_of q o₁)) (state_of p out) q p → (y : Emitted) → y ≡ record { places = p; next = x.next }
+          → EmittedAt s (emit_blob (0 ∷ []) (state_of from.places o) (drop from.next (bits s))) from 0 (Some y) out
+      unfolding put_byte
+      text_done p out u y ey =
+          let t = there in
+          let paid = blob_paid (state_of from.places o) (state_of q o₁) (drop from.next (bits s)) (drop x.next (bits s)) t.is in
+          let a = length-drop from.next (bits s) in
+          let b = length-drop x.next (bits s) in
+          let z = bits-length s in
+          let i = t.reached.here in
+          let j = room.here in
+          let f = u.at in
+          let l : p.at + 8192 * from.next ≤ from.places.at + 0 + 8192 * x.next = omega arith in
+          arrived s _ from 0 (record { places = p; next = x.next }) out
+          (blob_more (0 ∷ []) (state_of from.places o) (drop from.next (bits s)) ∙ part_goes s _ from 0 o₁ _ _ t ∙ ap (λ a. got a (drop x.next (bits s))) (sym u.is))
+          (record { here = i; at = l; bool = held_same q p t.reached.bool u.free u.held; tail = rw u.tail t.reached.tail; next = rw u.next t.reached.next }) y ey
 
 -- ---- no value
 module _ (w : ℕ) where
@@ -534,41 +512,36 @@ module _ (o : ℕ) (S : Schema) (k : Kind) (c r : Places) (out out₁ : List ℕ
       rw e (subst (λ (n : ℕ). Lacks (put_bytes (zeros n) (state_of c out)) (state_of r out₁) c r) ew (zero_lacks w (omega arith) c r out out₁ ok u))
 
 -- ---- unknown numbers, passed over
-module _ (s : List ℕ) (k : Flat) (pos : ℕ) (c : Places) (st : State) (t : Bool) (p : Places) (out : List ℕ) (n : ℕ) where
-  module _ (room : Room s pos c) (et : t ≡ false) (ep : p ≡ c) (en : n ≡ pos) where
-    pub pass_boolean : k ≡ Boolean → EmittedAt s (pass_flat k st (drop pos (bits s))) pos c 0 t p out n
-    unfolding pass_flat
-    pass_boolean e = refused s _ pos c 0 (rw e) room t p out n et ep en
-
-    pub pass_integer : (g : Bool) (w : ℕ) → k ≡ Integer g w → EmittedAt s (pass_flat k st (drop pos (bits s))) pos c 0 t p out n
-    unfolding pass_flat
-    pass_integer g w e = refused s _ pos c 0 (rw e) room t p out n et ep en
-
-    pub pass_float : (w : ℕ) → k ≡ Float w → EmittedAt s (pass_flat k st (drop pos (bits s))) pos c 0 t p out n
-    unfolding pass_flat
-    pass_float w e = refused s _ pos c 0 (rw e) room t p out n et ep en
-
-    pub pass-struct : (i : ℕ) → k ≡ Struct i → EmittedAt s (pass_flat k st (drop pos (bits s))) pos c 0 t p out n
-    unfolding pass_flat
-    pass-struct i e = refused s _ pos c 0 (rw e) room t p out n et ep en
-
-  pub pass-enum : (m : ℕ) → k ≡ Enumerated m → EmittedAt s (emit_if 8 (unknown_enum m) put_nothing st (drop pos (bits s))) pos c 0 t p out n
-      → EmittedAt s (pass_flat k st (drop pos (bits s))) pos c 0 t p out n
+module _ (s : List ℕ) (k : Flat) (from : Emitted) (st : State) (out : List ℕ) where
+  -- only an enum has one
+  pub pass_none : ((m : ℕ) → k ≡ Enumerated m → ⊥) → EmittedAt s (pass_flat k st (drop from.next (bits s))) from 0 None out
   unfolding pass_flat
-  pass-enum m e u = rw e u
+  pass_none h = refused s _ from 0 (by k h) None refl out
+    where
+      by : (f : Flat) → ((m : ℕ) → f ≡ Enumerated m → ⊥) → pass_flat f st (drop from.next (bits s)) ≡ fail
+      by Boolean g = refl
+      by (Integer g w) u = refl
+      by (Float w) g = refl
+      by (Enumerated m) g = absurd (g m refl)
+      by (Struct i) g = refl
 
-module _ (S : Schema) (s : List ℕ) (k : Kind) (pos : ℕ) (c : Places) (st : State) (t : Bool) (p : Places) (out : List ℕ) (n : ℕ) where
-  pub pass-flat : (f : Flat) → k ≡ OfFlat f → EmittedAt s (pass_flat f st (drop pos (bits s))) pos c 0 t p out n
-      → EmittedAt s (pass S k st (drop pos (bits s))) pos c 0 t p out n
-  unfolding pass
-  pass-flat f e u = rw e u
+  pub pass-enum : (r : Option Emitted) (m : ℕ) → k ≡ Enumerated m → EmittedAt s (emit_if 8 (unknown_enum m) put_nothing st (drop from.next (bits s))) from 0 r out
+      → EmittedAt s (pass_flat k st (drop from.next (bits s))) from 0 r out
+  unfolding pass_flat
+  pass-enum r m e u = rw e u
 
-  pub pass-object : (ob : Object) → k ≡ OfObject ob → Room s pos c → t ≡ false → p ≡ c → n ≡ pos → EmittedAt s (pass S k st (drop pos (bits s))) pos c 0 t p out n
+module _ (S : Schema) (s : List ℕ) (k : Kind) (from : Emitted) (st : State) (out : List ℕ) where
+  pub pass-flat : (r : Option Emitted) (f : Flat) → k ≡ OfFlat f → EmittedAt s (pass_flat f st (drop from.next (bits s))) from 0 r out
+      → EmittedAt s (pass S k st (drop from.next (bits s))) from 0 r out
   unfolding pass
-  pass-object ob e room et ep en = refused s _ pos c 0 (rw e) room t p out n et ep en
+  pass-flat r f e u = rw e u
 
-  pub pass-union : (i j : ℕ) → k ≡ OfUnion i → j ≡ i
-      → EmittedAt s (emit_if 16 (above_count (length (Sc.cases_of S j))) put_nothing st (drop pos (bits s))) pos c 0 t p out n
-      → EmittedAt s (pass S k st (drop pos (bits s))) pos c 0 t p out n
+  pub pass-object : (ob : Object) → k ≡ OfObject ob → EmittedAt s (pass S k st (drop from.next (bits s))) from 0 None out
   unfolding pass
-  pass-union i j e ej u = rw e (subst (λ (a : ℕ). EmittedAt s (emit_if 16 (above_count (length (Sc.cases_of S a))) put_nothing st (drop pos (bits s))) pos c 0 t p out n) ej u)
+  pass-object ob e = refused s _ from 0 (rw e refl) None refl out
+
+  pub pass-union : (r : Option Emitted) (i j : ℕ) → k ≡ OfUnion i → j ≡ i
+      → EmittedAt s (emit_if 16 (above_count (length (Sc.cases_of S j))) put_nothing st (drop from.next (bits s))) from 0 r out
+      → EmittedAt s (pass S k st (drop from.next (bits s))) from 0 r out
+  unfolding pass
+  pass-union r i j e ej u = rw e (subst (λ (a : ℕ). EmittedAt s (emit_if 16 (above_count (length (Sc.cases_of S a))) put_nothing st (drop from.next (bits s))) from 0 r out) ej u)

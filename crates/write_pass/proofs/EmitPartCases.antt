@@ -2,40 +2,46 @@
 use mathlib.Core.Path.{◌≡◌, refl, sym, ap, ap₂, ◌∙◌, subst}
 use mathlib.Core.Bool.{Bool, true, false, not, ◌&&◌}
 use mathlib.Core.List.{List}
+use Rattle.std.specs.Prelude.{Option, Some, None}
 use Prim.Native.Nat.{ℕ, zero, suc, ◌+◌, ◌*◌, ◌^◌, ◌<◌, ◌≤◌}
 use native.Mathlib.Omega.{arith}
 use lib.ListN.{length, drop}
-use lib.Dec.{eqb}
-use borrow.Author.Tests.{eq-eqb, ne_eqb, le-leb, lt-leb, not-true, not-false}
+use borrow.Author.Tests.{le-leb, lt-leb}
 use Rattle.coding.specs.Lists.{pick}
 use Rattle.coding.specs.Bits.{bits}
 use Rattle.coding.specs.Schema as Sc
 use Rattle.coding.specs.Schema.{Schema}
 use Rattle.coding.specs.Layout.{has_flag, takes_flag}
 use Rattle.coding.specs.Walk.{magic}
-use Rattle.coding.specs.Sheet.{Parsed, fail, got, bind, unmarked, flat_unmarked}
+use Rattle.coding.specs.Sheet.{Parsed, fail, got, bind, take_number, unmarked, flat_unmarked}
 use Rattle.coding.specs.declared.Flat.{Flat}
 use Rattle.coding.specs.declared.Object.{Object}
+use Rattle.coding.specs.declared.Object.TheVariants as O
 use Rattle.coding.specs.declared.Kind.{Kind}
 use Rattle.coding.specs.declared.Kind.TheVariants.{OfFlat, OfObject, OfUnion}
 use Rattle.coding.specs.declared.Member.{Member}
 use Rattle.laws.specs.Lists.{never}
-use Rattle.laws.specs.Sound.{FlatScalar, NoStruct}
-use Rattle.bitio.specs.Taken.{TakenNumber}
+use Rattle.laws.specs.Sound.{FlatScalar, NoStruct, ObjectSound}
+use Rattle.bitio.specs.Taken.{NumberAt}
+use Rattle.bitio.specs.declared.Number.{Number}
 use Rattle.write_measure.specs.Survey.{head_size, Surveyor, survey_mark}
+use Rattle.write_measure.specs.Marks.{mark_of, MarkedAt}
+use Rattle.write_measure.specs.declared.Mark.TheVariants as Mark
+use Rattle.write_measure.specs.declared.Marked.{Marked}
 use Rattle.write_measure.specs.Mapped.{Has}
+use Rattle.write_measure.specs.Surveyed.{Small}
 use Rattle.write_measure.specs.declared.Extent.{Extent}
 use Rattle.write_store.specs.State.{State, enter_object, leave_object, enter_content, leave_content, put_number}
 use Rattle.write_pass.specs.EmitSheet.{Emitter, emit_flat, lack, pass, open_object, emit_object, emit_content_at, emit_refer, emit_choice, emit_body, emit_part, emit_element, flagged}
-use Rattle.write_pass.specs.Measure.{Sizes, Measured}
+use Rattle.write_pass.specs.Measure.{Sizes, Measured, MeasuredAt}
 use Rattle.write_store.specs.Storing.{state_of, HeldOk, left_object, left_content, Stood, BitPut}
 use Rattle.schema.specs.Kinds.{is_blob}
-use Rattle.write_pass.specs.Emitting.{closed, referred, opened, emit_member, Room, EmittedAt, Lacks, Opens, extra, emit_marked_flat, emit_unflagged, refers, is_terminal}
+use Rattle.write_pass.specs.Emitting.{given, closed, referred, opened, emit_member, Room, EmittedAt, Lacks, Absent, Opens, extra, emit_marked_flat, emit_unflagged, refers, is_terminal}
 use Rattle.write_store.specs.declared.Places.{Places}
+use Rattle.write_pass.specs.declared.Emitted.{Emitted}
 use Rattle.write_measure.proofs.ObjectCases.{object-marked}
-use Rattle.write_pass.proofs.OpenCases.{flag_none}
-use Rattle.write_pass.proofs.EmitCases.{lacks-object}
-use Rattle.write_pass.proofs.EmitRoom.{taken_at, refused, extra_most, held_same, room-lack}
+use Rattle.write_pass.proofs.EmitCases.{lacks-object, marks-cut, marks-none, marks-there, marks-unknown, marks-fail}
+use Rattle.write_pass.proofs.EmitRoom.{none_taken, some_taken, taken_at, refused, arrived, later, same, extra_most, held_same, room-absent}
 
 -- ---- an object: what refers to it, its content, and back; by offset or in place
 module _ (o : ℕ) (child : Emitter) (S : Schema) (inplace : Bool) (ob : Object) (st : State) (xs : List ℕ) where
@@ -82,283 +88,336 @@ module _ (o : ℕ) (child : Emitter) (S : Schema) (inplace : Bool) (ob : Object)
           surveyed measure x ys e ∙ ap (within (referred o inplace x st)) (same-opened r x inplace h (referred o inplace x st))
           ∙ ap (λ (z : State). within z (opened o S ob inplace r z)) (same-referred r x inplace h)
 
-module _ (o : ℕ) (child : Emitter) (measure : Surveyor) (S : Schema) (s : List ℕ) (inplace : Bool) (ob : Object) (c : Places) (out : List ℕ) (pos : ℕ) (room : Room s pos c)
-    (x : Extent) (m : Measured inplace (measure ob (drop pos (bits s))) x) (fails : (u : State) → measure ob (drop pos (bits s)) ≡ fail → child ob u (drop pos (bits s)) ≡ fail) where
-  module _ (p : Places) (out₁ : List ℕ) (st : Stood o (referred o inplace x (state_of c out)) (state_of p out₁) c p)
-      (q : Places) (out₂ : List ℕ) (op : Opens o (opened o S ob inplace x (state_of p out₁)) (state_of q out₂) q)
-      (yw : Bool) (y : Places) (out₃ : List ℕ) (yn : ℕ) (em : EmittedAt s (child ob (state_of q out₂) (drop pos (bits s))) pos q 0 yw y out₃ yn) where
-    abbrev back : Parsed State → Parsed State
-    back r = bind r (λ inner zs. got (pick inplace (leave_content (state_of p out₁) inner) (leave_object (state_of p out₁) inner)) zs)
+module _ (o : ℕ) (child : Emitter) (measure : Surveyor) (S : Schema) (s : List ℕ) (inplace : Bool) (ob : Object) (from : Emitted) (out : List ℕ) (room : Room s from)
+    (x : Extent) (m : Measured inplace (measure ob (drop from.next (bits s))) x)
+    (fails : (u : State) → measure ob (drop from.next (bits s)) ≡ fail → child ob u (drop from.next (bits s)) ≡ fail)
+    (p : Places) (out₁ : List ℕ) (st : Stood o (referred o inplace x (state_of from.places out)) (state_of p out₁) from.places p)
+    (q : Places) (out₂ : List ℕ) (op : Opens o (opened o S ob inplace x (state_of p out₁)) (state_of q out₂) q)
+    (g : Emitted) (eg : g ≡ record { places = q; next = from.next }) (out₃ : List ℕ) where
+  abbrev back : Parsed State → Parsed State
+  back r = bind r (λ inner zs. got (pick inplace (leave_content (state_of p out₁) inner) (leave_object (state_of p out₁) inner)) zs)
 
-    referred_is : emit_refer child measure o S inplace ob (state_of c out) (drop pos (bits s)) ≡ back (pick yw (got (state_of y out₃) (drop yn (bits s))) fail)
-    unfolding within
-    referred_is =
-        refer_is o child S inplace ob (state_of c out) (drop pos (bits s)) measure x m.is fails
-        ∙ ap (λ (z : State). bind (child ob (opened o S ob inplace x z) (drop pos (bits s))) (λ inner zs. got (pick inplace (leave_content z inner) (leave_object z inner)) zs)) (sym st.is)
-        ∙ ap (λ (z : State). back (child ob z (drop pos (bits s)))) (sym op.is) ∙ ap back em.is
+  abbrev stored_there : Option Emitted → Type 0
+  stored_there r = EmittedAt s (child ob (state_of g.places out₂) (drop g.next (bits s))) g 0 r out₃
 
-    pub refer-unlawful : not yw ≡ true → (w : Bool) (r : Places) (n : ℕ) → w ≡ false → r ≡ c → n ≡ pos
-        → EmittedAt s (emit_refer child measure o S inplace ob (state_of c out) (drop pos (bits s))) pos c o w r out₃ n
-    unfolding bind
-    refer-unlawful f w r n ew er en =
-        refused s _ pos c o (referred_is ∙ ap (λ (u : Bool). back (pick u (got (state_of y out₃) (drop yn (bits s))) fail)) (not-true yw f)) room w r out₃ n ew er en
+  inside : (r : Option Emitted) → stored_there r → EmittedAt s (child ob (state_of q out₂) (drop from.next (bits s))) (record { places = q; next = from.next }) 0 r out₃
+  inside r t = subst (λ (z : Emitted). EmittedAt s (child ob (state_of z.places out₂) (drop z.next (bits s))) z 0 r out₃) eg t
 
+  referred_is : (r : Option Emitted) → stored_there r → emit_refer child measure o S inplace ob (state_of from.places out) (drop from.next (bits s)) ≡ back (given s out₃ r)
+  unfolding within
+  referred_is r t =
+      refer_is o child S inplace ob (state_of from.places out) (drop from.next (bits s)) measure x m.is fails
+      ∙ ap (λ (z : State). bind (child ob (opened o S ob inplace x z) (drop from.next (bits s))) (λ inner zs. got (pick inplace (leave_content z inner) (leave_object z inner)) zs)) (sym st.is)
+      ∙ ap (λ (z : State). back (child ob z (drop from.next (bits s)))) (sym op.is) ∙ ap back (inside r t).is
+
+  pub refer-unlawful : stored_there None → (r : Option Emitted) → r ≡ None
+      → EmittedAt s (emit_refer child measure o S inplace ob (state_of from.places out) (drop from.next (bits s))) from o r out₃
+  unfolding bind
+  refer-unlawful t r er = refused s _ from o (referred_is None t) r er out₃
+
+  module _ (y : Emitted) (t : stored_there (Some y)) where
     shut : (i : Bool)
-        → pick i (leave_content (state_of p out₁) (state_of y out₃)) (leave_object (state_of p out₁) (state_of y out₃)) ≡ state_of (closed i p y) out₃
+        → pick i (leave_content (state_of p out₁) (state_of y.places out₃)) (leave_object (state_of p out₁) (state_of y.places out₃)) ≡ state_of (closed i p y.places) out₃
     unfolding closed left_content left_object leave_content leave_object
     shut true = refl
     shut false = refl
 
-    shut_at : (i : Bool) → (closed i p y).at ≡ p.at
+    shut_at : (i : Bool) → (closed i p y.places).at ≡ p.at
     unfolding closed left_content left_object
     shut_at true = refl
     shut_at false = refl
 
-    shut-held : (i : Bool) → HeldOk p → HeldOk (closed i p y)
+    shut-held : (i : Bool) → HeldOk p → HeldOk (closed i p y.places)
     unfolding closed left_content left_object
     shut-held true ok = record { free = ok.free; held = ok.held }
     shut-held false ok = record { free = ok.free; held = ok.held }
 
-    shut_tail : (i : Bool) → p.tail ≤ 16777216 → y.tail ≤ 16777216 → (closed i p y).tail ≤ 16777216
+    shut_tail : (i : Bool) → p.tail ≤ 16777216 → y.places.tail ≤ 16777216 → (closed i p y.places).tail ≤ 16777216
     unfolding closed left_content left_object
     shut_tail true a b = b
     shut_tail false a b = a
 
-    shut_next : (i : Bool) → y.next ≤ 16777216 → (closed i p y).next ≤ 16777216
+    shut_next : (i : Bool) → y.places.next ≤ 16777216 → (closed i p y.places).next ≤ 16777216
     unfolding closed left_content left_object
     shut_next true a = a
     shut_next false a = a
 
-    pub refer-closed : pos ≤ yn → not yw ≡ false → (k : Places) → k ≡ closed inplace p y → (w : Bool) (r : Places) (n : ℕ) → w ≡ true → r ≡ k → n ≡ yn
-        → EmittedAt s (emit_refer child measure o S inplace ob (state_of c out) (drop pos (bits s))) pos c o w r out₃ n
+    pub refer-closed : from.next ≤ y.next → (k : Places) → k ≡ closed inplace p y.places → (z : Emitted) → z ≡ record { places = k; next = y.next }
+        → EmittedAt s (emit_refer child measure o S inplace ob (state_of from.places out) (drop from.next (bits s))) from o (Some z) out₃
     unfolding bind
-    refer-closed on f k ek w r n ew er en =
+    refer-closed on k ek z ez =
         let a = shut_at inplace in
         let b = st.at in
-        let g : (closed inplace p y).at + 8192 * pos ≤ c.at + o + 8192 * yn = omega arith in
-        rw (ew, er, en, ek)
+        let h = t.reached in
+        let f : (closed inplace p y.places).at + 8192 * from.next ≤ from.places.at + o + 8192 * y.next = omega arith in
+        arrived s _ from o (record { places = closed inplace p y.places; next = y.next }) out₃
+        (referred_is (Some y) t ∙ ap (λ (v : State). got v (drop y.next (bits s))) (shut inplace))
         (record {
-          is = referred_is ∙ ap (λ (u : Bool). back (pick u (got (state_of y out₃) (drop yn (bits s))) fail)) (not-false yw f)
-              ∙ ap (λ (z : State). got z (drop yn (bits s))) (shut inplace);
-          here = em.here;
-          at = g;
-          bool = shut-held inplace (held_same c p room.bool st.free st.held);
-          tail = shut_tail inplace (rw st.tail room.tail) em.tail;
-          next = shut_next inplace em.next;
-        })
+          here = h.here;
+          at = f;
+          bool = shut-held inplace (held_same from.places p room.bool st.free st.held);
+          tail = shut_tail inplace (rw st.tail room.tail) h.tail;
+          next = shut_next inplace h.next;
+        }) z (ez ∙ ap (λ (v : Places). record { places = v; next = y.next }) ek)
+
+-- whose survey finds it not lawful
+pub refer-none : (o : ℕ) (child : Emitter) (measure : Surveyor) (S : Schema) (s : List ℕ) (inplace : Bool) (ob : Object) (from : Emitted) (e : ℕ) (st : State) (out : List ℕ)
+    → MeasuredAt inplace (measure ob (drop from.next (bits s))) None → (r : Option Emitted) → r ≡ None
+    → EmittedAt s (emit_refer child measure o S inplace ob st (drop from.next (bits s))) from e r out
+unfolding emit_refer bind
+refer-none o child measure S s inplace ob from e st out m r er =
+    refused s _ from e (ap (λ d. bind d (λ x ys. pick inplace (emit_content_at child o ob x st (drop from.next (bits s))) (emit_object child o S ob x st (drop from.next (bits s))))) m.is) r er out
+
+pub measured_some : (inplace : Bool) (p : Parsed Extent) (e : Extent) → MeasuredAt inplace p (Some e) → Measured inplace p e
+measured_some inplace p e m = m.is
+
+pub small_some : (inplace : Bool) (p : Parsed Extent) (e : Extent) → MeasuredAt inplace p (Some e) → Small e
+small_some inplace p e m = m.is.small
 
 -- ---- a union's known choice
 positive : (y : ℕ) → (y ≡ 0 → ⊥) → 1 ≤ y
 positive zero f = absurd (f refl)
 positive (suc y) f = omega arith
 
-module _ (o : ℕ) (child : Emitter) (measure : Surveyor) (S : Schema) (s : List ℕ) (inplace : Bool) (u : ℕ) (c : Places) (out : List ℕ) (pos : ℕ) (room : Room s pos c)
-    (whole : Bool) (x next : ℕ) (taken : TakenNumber s pos 16 whole x next) where
-  pub choice-cut : not whole ≡ true → (w : Bool) (q : Places) (n : ℕ) → w ≡ false → q ≡ c → n ≡ pos
-      → EmittedAt s (emit_choice child measure o S inplace (Sc.cases_of S u) (state_of c out) (drop pos (bits s))) pos c o w q out n
-  unfolding emit_choice bind
-  choice-cut h w q n ew eq en = refused s _ pos c o (rw (taken.number, not-true whole h)) room w q out n ew eq en
+module _ (o : ℕ) (child : Emitter) (measure : Surveyor) (S : Schema) (s : List ℕ) (inplace : Bool) (u : ℕ) (from : Emitted) (out : List ℕ) where
+  abbrev chosen : Parsed State
+  chosen = emit_choice child measure o S inplace (Sc.cases_of S u) (state_of from.places out) (drop from.next (bits s))
 
-  module _ (h : not whole ≡ false) where
-    pub choice-zero : x ≡ 0 → (w : Bool) (q : Places) (n : ℕ) → w ≡ false → q ≡ c → n ≡ pos
-        → EmittedAt s (emit_choice child measure o S inplace (Sc.cases_of S u) (state_of c out) (drop pos (bits s))) pos c o w q out n
-    unfolding emit_choice bind
-    choice-zero z w q n ew eq en =
-        let lt : x < 1 = omega arith in
-        refused s _ pos c o (rw (taken.number, not-false whole h) (simp (lt-leb 1 x lt))) room w q out n ew eq en
+  pub choice-cut : take_number 16 (drop from.next (bits s)) ≡ fail → (r : Option Emitted) → r ≡ None → EmittedAt s chosen from o r out
+  unfolding emit_choice
+  choice-cut h r er = refused s _ from o (none_taken _ 16 _ h) r er out
 
-    module _ (h0 : x ≡ 0 → ⊥) (m : ℕ) (em : m ≡ length (Sc.cases_of S u)) where
-      pub choice_above : m < x → (w : Bool) (q : Places) (n : ℕ) → w ≡ false → q ≡ c → n ≡ pos
-          → EmittedAt s (emit_choice child measure o S inplace (Sc.cases_of S u) (state_of c out) (drop pos (bits s))) pos c o w q out n
-      unfolding emit_choice bind
-      choice_above g w q n ew eq en =
-          let one : 1 ≤ x = positive x h0 in
-          let lt : length (Sc.cases_of S u) < x = omega arith in
-          refused s _ pos c o (rw (taken.number, not-false whole h) (simp (le-leb 1 x one, lt-leb x (length (Sc.cases_of S u)) lt))) room w q out n ew eq en
+  module _ (x : Number) (taken : NumberAt s from.next 16 x) where
+    pub choice-zero : x.value ≡ 0 → EmittedAt s chosen from o None out
+    unfolding emit_choice
+    choice-zero z =
+        let lt : x.value < 1 = omega arith in
+        refused s _ from o (some_taken _ s from.next 16 x taken ∙ simp (lt-leb 1 x.value lt) refl) None refl out
 
-      pub choice-known : x ≤ m → (ob : Object) → ob ≡ Sc.case_of (Sc.cases_of S u) x → (p : Places) (out₁ : List ℕ) → Stood 2 (put_number 2 x (state_of c out)) (state_of p out₁) c p
-          → (w : Bool) (q : Places) (out₂ : List ℕ) (n : ℕ) → EmittedAt s (emit_refer child measure o S inplace ob (state_of p out₁) (drop next (bits s))) next p o w q out₂ n
-          → EmittedAt s (emit_choice child measure o S inplace (Sc.cases_of S u) (state_of c out) (drop pos (bits s))) pos c o w q out₂ n
-      unfolding emit_choice bind
-      choice-known g ob eo p out₁ st w q out₂ n t =
-          let one : 1 ≤ x = positive x h0 in
-          let le : x ≤ length (Sc.cases_of S u) = omega arith in
-          let e = taken_at s pos 16 whole x next taken room.here h in
-          let a = t.at in
-          let f = st.at in
-          record {
-            is = rw (taken.number, not-false whole h) (simp (le-leb 1 x one, le-leb x (length (Sc.cases_of S u)) le)
-                (ap (λ (b : Object). emit_refer child measure o S inplace b (put_number 2 x (state_of c out)) (drop next (bits s))) (sym eo)
-                ∙ ap (λ (z : State). emit_refer child measure o S inplace ob z (drop next (bits s))) (sym st.is) ∙ t.is));
-            here = t.here;
-            at = omega arith;
-            bool = t.bool;
-            tail = t.tail;
-            next = t.next;
-          }
+    pub choice_above : (x.value ≡ 0 → ⊥) → (m : ℕ) → m ≡ length (Sc.cases_of S u) → m < x.value → EmittedAt s chosen from o None out
+    unfolding emit_choice
+    choice_above h0 m em g =
+        let one : 1 ≤ x.value = positive x.value h0 in
+        let lt : length (Sc.cases_of S u) < x.value = omega arith in
+        refused s _ from o (some_taken _ s from.next 16 x taken ∙ simp (le-leb 1 x.value one, lt-leb x.value (length (Sc.cases_of S u)) lt) refl) None refl out
+
+    pub choice-known : Room s from → (x.value ≡ 0 → ⊥) → (m : ℕ) → m ≡ length (Sc.cases_of S u) → x.value ≤ m → (ob : Object) → ob ≡ Sc.case_of (Sc.cases_of S u) x.value
+        → (p : Places) (out₁ : List ℕ) → Stood 2 (put_number 2 x.value (state_of from.places out)) (state_of p out₁) from.places p
+        → (g : Emitted) → g ≡ record { places = p; next = x.next } → (r : Option Emitted) (out₂ : List ℕ)
+        → EmittedAt s (emit_refer child measure o S inplace ob (state_of g.places out₁) (drop g.next (bits s))) g o r out₂ → EmittedAt s chosen from o r out₂
+    unfolding emit_choice
+    choice-known room h0 m em l ob eo p out₁ st g eg r out₂ t =
+        let one : 1 ≤ x.value = positive x.value h0 in
+        let le : x.value ≤ length (Sc.cases_of S u) = omega arith in
+        let e = taken_at s from.next 16 x taken room.here in
+        let f = st.at in
+        let k : p.at + o + 8192 * from.next ≤ from.places.at + o + 8192 * x.next = omega arith in
+        later s _ from o (emit_refer child measure o S inplace ob (state_of p out₁) (drop x.next (bits s)))
+        (some_taken _ s from.next 16 x taken ∙ simp (le-leb 1 x.value one, le-leb x.value (length (Sc.cases_of S u)) le)
+        (ap (λ (b : Object). emit_refer child measure o S inplace b (put_number 2 x.value (state_of from.places out)) (drop x.next (bits s))) (sym eo)
+        ∙ ap (λ (z : State). emit_refer child measure o S inplace ob z (drop x.next (bits s))) (sym st.is)))
+        (record { places = p; next = x.next }) o k r out₂
+        (subst (λ (z : Emitted). EmittedAt s (emit_refer child measure o S inplace ob (state_of z.places out₁) (drop z.next (bits s))) z o r out₂) eg t)
 
 -- ---- what is there
-module _ (o : ℕ) (child : Emitter) (measure : Surveyor) (S : Schema) (s : List ℕ) (k : Kind) (inplace : Bool) (c : Places) (out : List ℕ) (pos : ℕ) (w : Bool) (q : Places) (out₁ : List ℕ) (n : ℕ) where
-  pub body-flat : (f : Flat) → k ≡ OfFlat f → EmittedAt s (emit_flat S f (state_of c out) (drop pos (bits s))) pos c 0 w q out₁ n
-      → EmittedAt s (emit_body child measure o S k inplace (state_of c out) (drop pos (bits s))) pos c (extra o k) w q out₁ n
+module _ (o : ℕ) (child : Emitter) (measure : Surveyor) (S : Schema) (s : List ℕ) (k : Kind) (inplace : Bool) (from : Emitted) (out : List ℕ) where
+  abbrev bodied : Option Emitted → List ℕ → Type 0
+  bodied r out₁ = EmittedAt s (emit_body child measure o S k inplace (state_of from.places out) (drop from.next (bits s))) from (extra o k) r out₁
+
+  pub body-flat : (f : Flat) → k ≡ OfFlat f → (r : Option Emitted) (out₁ : List ℕ) → EmittedAt s (emit_flat S f (state_of from.places out) (drop from.next (bits s))) from 0 r out₁
+      → bodied r out₁
   unfolding emit_body extra
-  body-flat f e t = rw e t
+  body-flat f e r out₁ t = rw e t
 
-  pub body-object : (ob : Object) → k ≡ OfObject ob → EmittedAt s (emit_refer child measure o S inplace ob (state_of c out) (drop pos (bits s))) pos c o w q out₁ n
-      → EmittedAt s (emit_body child measure o S k inplace (state_of c out) (drop pos (bits s))) pos c (extra o k) w q out₁ n
+  pub body-object : (ob : Object) → k ≡ OfObject ob → (r : Option Emitted) (out₁ : List ℕ)
+      → EmittedAt s (emit_refer child measure o S inplace ob (state_of from.places out) (drop from.next (bits s))) from o r out₁ → bodied r out₁
   unfolding emit_body extra
-  body-object ob e t = rw e t
+  body-object ob e r out₁ t = rw e t
 
-  pub body-union : (u j : ℕ) → k ≡ OfUnion u → j ≡ u → EmittedAt s (emit_choice child measure o S inplace (Sc.cases_of S j) (state_of c out) (drop pos (bits s))) pos c o w q out₁ n
-      → EmittedAt s (emit_body child measure o S k inplace (state_of c out) (drop pos (bits s))) pos c (extra o k) w q out₁ n
+  pub body-union : (u j : ℕ) → k ≡ OfUnion u → j ≡ u → (r : Option Emitted) (out₁ : List ℕ)
+      → EmittedAt s (emit_choice child measure o S inplace (Sc.cases_of S j) (state_of from.places out) (drop from.next (bits s))) from o r out₁ → bodied r out₁
   unfolding emit_body extra
-  body-union u j e ej t = rw e (subst (λ (a : ℕ). EmittedAt s (emit_choice child measure o S inplace (Sc.cases_of S a) (state_of c out) (drop pos (bits s))) pos c o w q out₁ n) ej t)
+  body-union u j e ej r out₁ t =
+      rw e (subst (λ (a : ℕ). EmittedAt s (emit_choice child measure o S inplace (Sc.cases_of S a) (state_of from.places out) (drop from.next (bits s))) from o r out₁) ej t)
 
-  -- with its answer copied
-  module _ (w₀ : Bool) (q₀ : Places) (n₀ : ℕ) (ew : w ≡ w₀) (eq : q ≡ q₀) (en : n ≡ n₀) where
-    pub kept-object : (ob : Object) → k ≡ OfObject ob → EmittedAt s (emit_refer child measure o S inplace ob (state_of c out) (drop pos (bits s))) pos c o w₀ q₀ out₁ n₀
-        → EmittedAt s (emit_body child measure o S k inplace (state_of c out) (drop pos (bits s))) pos c (extra o k) w q out₁ n
-    kept-object ob e t = body-object ob e (rw (ew, eq, en) t)
+  -- where the answer is handed on field by field
+  pub kept-object : (ob : Object) → k ≡ OfObject ob → (y : Emitted) (out₁ : List ℕ)
+      → EmittedAt s (emit_refer child measure o S inplace ob (state_of from.places out) (drop from.next (bits s))) from o (Some y) out₁ → (z : Emitted) → z ≡ y → bodied (Some z) out₁
+  kept-object ob e y out₁ t z ez = rw ez (body-object ob e (Some y) out₁ t)
 
-    pub kept-union : (u j : ℕ) → k ≡ OfUnion u → j ≡ u → EmittedAt s (emit_choice child measure o S inplace (Sc.cases_of S j) (state_of c out) (drop pos (bits s))) pos c o w₀ q₀ out₁ n₀
-        → EmittedAt s (emit_body child measure o S k inplace (state_of c out) (drop pos (bits s))) pos c (extra o k) w q out₁ n
-    kept-union u j e ej t = body-union u j e ej (rw (ew, eq, en) t)
+  pub kept-union : (u j : ℕ) → k ≡ OfUnion u → j ≡ u → (y : Emitted) (out₁ : List ℕ)
+      → EmittedAt s (emit_choice child measure o S inplace (Sc.cases_of S j) (state_of from.places out) (drop from.next (bits s))) from o (Some y) out₁ → (z : Emitted) → z ≡ y → bodied (Some z) out₁
+  kept-union u j e ej y out₁ t z ez = rw ez (body-union u j e ej (Some y) out₁ t)
 
--- ---- with its mark
-module _ (o : ℕ) (child : Emitter) (measure : Surveyor) (S : Schema) (s : List ℕ) (r : Member) (c : Places) (out : List ℕ) (pos : ℕ) (room : Room s pos c)
-    (whole : Bool) (x next : ℕ) (taken : TakenNumber s pos 2 whole x next) where
-  pub part_cut : not whole ≡ true → (w : Bool) (q : Places) (n : ℕ) → w ≡ false → q ≡ c → n ≡ pos
-      → EmittedAt s (emit_member child measure o S r (state_of c out) (drop pos (bits s))) pos c 0 w q out n
-  unfolding emit_member emit_part survey_mark bind
-  part_cut h w q n ew eq en = refused s _ pos c 0 (rw (taken.number, not-true whole h)) room w q out n ew eq en
+  pub none-object : (ob : Object) → k ≡ OfObject ob → (out₁ : List ℕ)
+      → EmittedAt s (emit_refer child measure o S inplace ob (state_of from.places out) (drop from.next (bits s))) from o None out₁ → (r : Option Emitted) → r ≡ None → bodied r out₁
+  none-object ob e out₁ t r er = rw er (body-object ob e None out₁ t)
 
-  module _ (h : not whole ≡ false) where
-    pub part_there : o ≤ 6 → x ≡ 1 → (p : Places) (out₁ : List ℕ) → BitPut (flagged r 1 (state_of c out)) (state_of p out₁) c p
-        → (w : Bool) (q : Places) (out₂ : List ℕ) (n : ℕ) → EmittedAt s (emit_body child measure o S r.kind r.inplace (state_of p out₁) (drop next (bits s))) next p (extra o r.kind) w q out₂ n
-        → EmittedAt s (emit_member child measure o S r (state_of c out) (drop pos (bits s))) pos c 0 w q out₂ n
-    unfolding emit_member emit_part survey_mark bind
-    part_there most z p out₁ b w q out₂ n t =
-        let e = taken_at s pos 2 whole x next taken room.here h in
-        let few = extra_most o most r.kind in
-        let a = t.at in
-        let f = b.at in
-        let n0 : eqb x 0 ≡ false = rw z refl in
-        record {
-          is = rw (taken.number, not-false whole h) (simp (n0, eq-eqb x 1 z)
-              (ap (λ (y : State). emit_body child measure o S r.kind r.inplace y (drop next (bits s))) (sym b.is) ∙ t.is));
-          here = t.here;
-          at = omega arith;
-          bool = t.bool;
-          tail = t.tail;
-          next = t.next;
-        }
+  pub none-union : (u j : ℕ) → k ≡ OfUnion u → j ≡ u → (out₁ : List ℕ)
+      → EmittedAt s (emit_choice child measure o S inplace (Sc.cases_of S j) (state_of from.places out) (drop from.next (bits s))) from o None out₁ → (r : Option Emitted) → r ≡ None → bodied r out₁
+  none-union u j e ej out₁ t r er = rw er (body-union u j e ej None out₁ t)
 
-    module _ (h1 : x ≡ 1 → ⊥) where
-      pub part_bad : x ≡ 3 → (w : Bool) (q : Places) (n : ℕ) → w ≡ false → q ≡ c → n ≡ pos
-          → EmittedAt s (emit_member child measure o S r (state_of c out) (drop pos (bits s))) pos c 0 w q out n
-      unfolding emit_member emit_part survey_mark bind
-      part_bad z w q n ew eq en =
-          let n0 : eqb x 0 ≡ false = rw z refl in
-          let n2 : eqb x 2 ≡ false = rw z refl in
-          refused s _ pos c 0 (rw (taken.number, not-false whole h) (simp (n0, ne_eqb x 1 h1, n2))) room w q out n ew eq en
+  pub body_terminal : (ob : Object) → k ≡ OfObject ob → is_terminal k inplace ≡ true → (r : Option Emitted) (out₁ : List ℕ)
+      → EmittedAt s (emit_refer child measure o S false ob (state_of from.places out) (drop from.next (bits s))) from o r out₁ → bodied r out₁
+  unfolding is_terminal
+  body_terminal ob e h r out₁ t = body-object ob e r out₁ (by inplace (subst (λ (q : Kind). is_terminal q inplace ≡ true) e h))
+    where
+      by : (i : Bool) → (not i && is_blob ob) ≡ true → EmittedAt s (emit_refer child measure o S i ob (state_of from.places out) (drop from.next (bits s))) from o r out₁
+      by true g = never g
+      by false g = t
 
-      module _ (h3 : x ≡ 3 → ⊥) (p : Places) (out₁ : List ℕ) (b : BitPut (flagged r 0 (state_of c out)) (state_of p out₁) c p)
-          (q : Places) (out₂ : List ℕ) (l : Lacks (lack o S r.kind (state_of p out₁)) (state_of q out₂) p q) where
-        lacked : state_of q out₂ ≡ lack o S r.kind (flagged r 0 (state_of c out))
-        lacked = l.is ∙ ap (lack o S r.kind) b.is
+  pub body_no_terminal : (i : ℕ) → k ≡ OfUnion i → is_terminal k inplace ≡ true → (r : Option Emitted) (out₁ : List ℕ) → bodied r out₁
+  unfolding is_terminal
+  body_no_terminal i e h r out₁ = never (subst (λ (q : Kind). is_terminal q inplace ≡ true) e h)
 
-        pub part_none : x ≡ 0 → (w : Bool) (y : Places) (n : ℕ) → w ≡ true → y ≡ q → n ≡ next
-            → EmittedAt s (emit_member child measure o S r (state_of c out) (drop pos (bits s))) pos c 0 w y out₂ n
-        unfolding emit_member emit_part survey_mark bind
-        part_none z w y n ew ey en =
-            let e = taken_at s pos 2 whole x next taken room.here h in
+  pub body_no-flat : (f : Flat) → k ≡ OfFlat f → refers k ≡ true → (r : Option Emitted) (out₁ : List ℕ) → bodied r out₁
+  unfolding refers
+  body_no-flat f e h r out₁ = never (subst (λ (q : Kind). refers q ≡ true) e h)
+
+-- ---- with its mark: st0 is behind the flag of an absent value, st1 behind that of a present one
+module _ (o : ℕ) (child : Emitter) (measure : Surveyor) (S : Schema) (s : List ℕ) (k : Kind) (inplace : Bool) (st0 st1 : State) (from : Emitted) where
+  abbrev parted : Option Emitted → List ℕ → Type 0
+  parted r out = EmittedAt s (emit_part child measure o S k inplace st0 st1 (drop from.next (bits s))) from 0 r out
+
+  parts-cut : mark_of (drop from.next (bits s)) ≡ fail → (r : Option Emitted) → r ≡ None → (out : List ℕ) → parted r out
+  unfolding emit_part
+  parts-cut h r er out = marks-cut s from _ _ _ h r er out
+
+  module _ (m : Marked) (taken : MarkedAt s from.next m) where
+    module _ (room : Room s from) where
+      parts_there : o ≤ 6 → m.mark ≡ Mark.Present → (p : Places) (out₁ : List ℕ) → BitPut st1 (state_of p out₁) from.places p → (g : Emitted) → g ≡ record { places = p; next = m.next }
+          → (r : Option Emitted) (out : List ℕ)
+          → EmittedAt s (emit_body child measure o S k inplace (state_of g.places out₁) (drop g.next (bits s))) g (extra o k) r out → parted r out
+      unfolding emit_part
+      parts_there most z p out₁ b g eg r out t =
+          let few = extra_most o most k in
+          let f = b.at in
+          marks-there s from _ _ _ m taken room p (extra o k) (omega arith) r out z
+          (subst (λ (y : State). EmittedAt s (emit_body child measure o S k inplace y (drop m.next (bits s))) (record { places = p; next = m.next }) (extra o k) r out) b.is
+          (subst (λ (y : Emitted). EmittedAt s (emit_body child measure o S k inplace (state_of y.places out₁) (drop y.next (bits s))) y (extra o k) r out) eg t))
+
+      module _ (p : Places) (out₁ : List ℕ) (l : Absent (lack o S k st0) (state_of p out₁) from.places p) where
+        parts_none : m.mark ≡ Mark.Absent → (y : Emitted) → y ≡ record { places = p; next = m.next } → parted (Some y) out₁
+        unfolding emit_part
+        parts_none z y ey =
             let a = l.at in
-            let f = b.at in
-            let g : q.at + 8192 * pos ≤ c.at + 0 + 8192 * next = omega arith in
-            rw (ew, ey, en)
-            (record {
-              is = rw (taken.number, not-false whole h) (simp (eq-eqb x 0 z) (ap (λ (y : State). got y (drop next (bits s))) (sym lacked)));
-              here = taken.inside;
-              at = g;
-              bool = l.bool;
-              tail = rw (l.tail, b.tail) room.tail;
-              next = rw (l.next, b.next) room.next;
-            })
+            marks-none s from _ _ _ m taken room z p out₁ l.is (room-absent s from room m taken _ _ p l _ refl) (omega arith) y ey
 
-        pub part-pass : (x ≡ 0 → ⊥) → (w : Bool) (y : Places) (out₃ : List ℕ) (n : ℕ) → EmittedAt s (pass S r.kind (state_of q out₂) (drop next (bits s))) next q 0 w y out₃ n
-            → EmittedAt s (emit_member child measure o S r (state_of c out) (drop pos (bits s))) pos c 0 w y out₃ n
-        unfolding emit_member emit_part survey_mark bind
-        part-pass h0 w y out₃ n t =
-            let e = taken_at s pos 2 whole x next taken room.here h in
-            let two : x ≡ 2 = by x h0 h1 h3 taken.small in
+        parts-pass : m.mark ≡ Mark.Unknown → (g : Emitted) → g ≡ record { places = p; next = m.next } → (r : Option Emitted) (out : List ℕ)
+            → EmittedAt s (pass S k (state_of g.places out₁) (drop g.next (bits s))) g 0 r out → parted r out
+        unfolding emit_part
+        parts-pass z g eg r out t =
             let a = l.at in
-            let f = b.at in
-            let g = t.at in
-            record {
-              is = rw (taken.number, not-false whole h) (simp (ne_eqb x 0 h0, ne_eqb x 1 h1, eq-eqb x 2 two)
-                  (ap (λ (y : State). pass S r.kind y (drop next (bits s))) (sym lacked) ∙ t.is));
-              here = t.here;
-              at = omega arith;
-              bool = t.bool;
-              tail = t.tail;
-              next = t.next;
-            }
-          where
-            by : (m : ℕ) → (m ≡ 0 → ⊥) → (m ≡ 1 → ⊥) → (m ≡ 3 → ⊥) → m < 2 ^ 2 → m ≡ 2
-            by zero f0 f1 f3 i = absurd (f0 refl)
-            by (suc zero) f0 f1 f3 i = absurd (f1 refl)
-            by (suc (suc zero)) f0 f1 f3 i = refl
-            by (suc (suc (suc zero))) f0 f1 f3 i = absurd (f3 refl)
-            by (suc (suc (suc (suc m)))) f0 f1 f3 i = absurd (omega arith)
+            marks-unknown s from _ _ _ m taken room p 0 (omega arith) r out z
+            (subst (λ (y : State). EmittedAt s (pass S k y (drop m.next (bits s))) (record { places = p; next = m.next }) 0 r out) l.is
+            (subst (λ (y : Emitted). EmittedAt s (pass S k (state_of y.places out₁) (drop y.next (bits s))) y 0 r out) eg t))
 
--- ---- elements
-module _ (o : ℕ) (child : Emitter) (measure : Surveyor) (S : Schema) (s : List ℕ) (k : Kind) (c : Places) (out : List ℕ) (pos : ℕ) (w : Bool) (q : Places) (out₁ : List ℕ) (n : ℕ)
-    (t : Bool) (et : t ≡ unmarked k) where
-  pub element-marked : t ≡ false → EmittedAt s (emit_member child measure o S (record { kind = k; optional = false; inplace = false }) (state_of c out) (drop pos (bits s))) pos c 0 w q out₁ n
-      → EmittedAt s (emit_element child measure o S k (state_of c out) (drop pos (bits s))) pos c 0 w q out₁ n
-  unfolding emit_element emit_member flagged has_flag
-  element-marked h m = rw (← et, h) m
+-- a member
+module _ (o : ℕ) (child : Emitter) (measure : Surveyor) (S : Schema) (s : List ℕ) (v : Member) (from : Emitted) (o₀ : List ℕ) where
+  abbrev membered : Option Emitted → List ℕ → Type 0
+  membered r out = EmittedAt s (emit_member child measure o S v (state_of from.places o₀) (drop from.next (bits s))) from 0 r out
+
+  pub part_cut : mark_of (drop from.next (bits s)) ≡ fail → (r : Option Emitted) → r ≡ None → (out : List ℕ) → membered r out
+  unfolding emit_member
+  part_cut h r er out = parts-cut o child measure S s v.kind v.inplace _ _ from h r er out
+
+  module _ (m : Marked) (taken : MarkedAt s from.next m) where
+    module _ (room : Room s from) where
+      pub part_there : o ≤ 6 → m.mark ≡ Mark.Present → (p : Places) (out₁ : List ℕ) → BitPut (flagged v 1 (state_of from.places o₀)) (state_of p out₁) from.places p
+          → (g : Emitted) → g ≡ record { places = p; next = m.next } → (r : Option Emitted) (out : List ℕ)
+          → EmittedAt s (emit_body child measure o S v.kind v.inplace (state_of g.places out₁) (drop g.next (bits s))) g (extra o v.kind) r out → membered r out
+      unfolding emit_member
+      part_there most z p out₁ b g eg r out t = parts_there o child measure S s v.kind v.inplace _ _ from m taken room most z p out₁ b g eg r out t
+
+      module _ (p : Places) (out₁ : List ℕ) (l : Absent (lack o S v.kind (flagged v 0 (state_of from.places o₀))) (state_of p out₁) from.places p) where
+        pub part_none : m.mark ≡ Mark.Absent → (y : Emitted) → y ≡ record { places = p; next = m.next } → membered (Some y) out₁
+        unfolding emit_member
+        part_none z y ey = parts_none o child measure S s v.kind v.inplace _ _ from m taken room p out₁ l z y ey
+
+        pub part-pass : m.mark ≡ Mark.Unknown → (g : Emitted) → g ≡ record { places = p; next = m.next } → (r : Option Emitted) (out : List ℕ)
+            → EmittedAt s (pass S v.kind (state_of g.places out₁) (drop g.next (bits s))) g 0 r out → membered r out
+        unfolding emit_member
+        part-pass z g eg r out t = parts-pass o child measure S s v.kind v.inplace _ _ from m taken room p out₁ l z g eg r out t
+
+-- a flag that was put, and what stands for no value behind it
+pub absent_put : (o : ℕ) (S : Schema) (m : Member) (c p q : Places) (out out₁ out₂ : List ℕ) → BitPut (flagged m 0 (state_of c out)) (state_of p out₁) c p
+    → Lacks (lack o S m.kind (state_of p out₁)) (state_of q out₂) p q → Absent (lack o S m.kind (flagged m 0 (state_of c out))) (state_of q out₂) c q
+absent_put o S m c p q out out₁ out₂ b l =
+    let a = l.at in
+    let f = b.at in
+    record { is = l.is ∙ ap (lack o S m.kind) b.is; bool = l.bool; at = omega arith; tail = l.tail ∙ b.tail; next = l.next ∙ b.next }
+
+pub flag_low : (put now : State) (c p : Places) → c.at < 2 ^ 60 → BitPut put now c p → p.at < 2 ^ 61
+flag_low put now c p l b = let a = b.at in omega arith
+
+-- no flag was put
+unput : (c : Places) (out : List ℕ) → HeldOk c → BitPut (state_of c out) (state_of c out) c c
+unput c out ok = record { is = refl; bool = ok; at = omega arith; tail = refl; next = refl }
+
+lacks_absent : (put now : State) (c q : Places) → Lacks put now c q → Absent put now c q
+lacks_absent put now c q l = let a = l.at in record { is = l.is; bool = l.bool; at = omega arith; tail = l.tail; next = l.next }
+
+-- a part that has no flag
+module _ (o : ℕ) (child : Emitter) (measure : Surveyor) (S : Schema) (s : List ℕ) (k : Kind) (inplace : Bool) (from : Emitted) (o₀ : List ℕ) where
+  abbrev unflagged_part : Option Emitted → List ℕ → Type 0
+  unflagged_part r out = EmittedAt s (emit_unflagged child measure o S k inplace (state_of from.places o₀) (drop from.next (bits s))) from 0 r out
+
+  pub unflagged-cut : mark_of (drop from.next (bits s)) ≡ fail → (r : Option Emitted) → r ≡ None → (out : List ℕ) → unflagged_part r out
+  unfolding emit_unflagged
+  unflagged-cut h r er out = parts-cut o child measure S s k inplace _ _ from h r er out
+
+  module _ (m : Marked) (taken : MarkedAt s from.next m) where
+    module _ (room : Room s from) where
+      pub unflagged_there : o ≤ 6 → m.mark ≡ Mark.Present → (g : Emitted) → g ≡ record { places = from.places; next = m.next } → (r : Option Emitted) (out : List ℕ)
+          → EmittedAt s (emit_body child measure o S k inplace (state_of g.places o₀) (drop g.next (bits s))) g (extra o k) r out → unflagged_part r out
+      unfolding emit_unflagged
+      unflagged_there most z g eg r out t = parts_there o child measure S s k inplace _ _ from m taken room most z from.places o₀ (unput from.places o₀ room.bool) g eg r out t
+
+      module _ (p : Places) (out₁ : List ℕ) (l : Lacks (lack o S k (state_of from.places o₀)) (state_of p out₁) from.places p) where
+        pub unflagged_none : m.mark ≡ Mark.Absent → (y : Emitted) → y ≡ record { places = p; next = m.next } → unflagged_part (Some y) out₁
+        unfolding emit_unflagged
+        unflagged_none z y ey = parts_none o child measure S s k inplace _ _ from m taken room p out₁ (lacks_absent _ _ from.places p l) z y ey
+
+        pub unflagged-pass : m.mark ≡ Mark.Unknown → (g : Emitted) → g ≡ record { places = p; next = m.next } → (r : Option Emitted) (out : List ℕ)
+            → EmittedAt s (pass S k (state_of g.places out₁) (drop g.next (bits s))) g 0 r out → unflagged_part r out
+        unfolding emit_unflagged
+        unflagged-pass z g eg r out t = parts-pass o child measure S s k inplace _ _ from m taken room p out₁ (lacks_absent _ _ from.places p l) z g eg r out t
 
 -- ---- an element that refers to an object, with its mark
-module _ (o : ℕ) (child : Emitter) (measure : Surveyor) (S : Schema) (s : List ℕ) (ob : Object) (c : Places) (out : List ℕ) (pos : ℕ) (room : Room s pos c)
-    (whole : Bool) (x next : ℕ) (taken : TakenNumber s pos 2 whole x next) where
-  abbrev plain_object : Member
-  plain_object = record { kind = OfObject ob; optional = false; inplace = false }
+module _ (o : ℕ) (child : Emitter) (measure : Surveyor) (S : Schema) (s : List ℕ) (ob : Object) (from : Emitted) (o₀ : List ℕ) where
+  abbrev element_part : Option Emitted → List ℕ → Type 0
+  element_part r out = EmittedAt s (emit_element child measure o S (OfObject ob) (state_of from.places o₀) (drop from.next (bits s))) from 0 r out
 
-  unflagged : (y : ℕ) → BitPut (flagged plain_object y (state_of c out)) (state_of c out) c c
-  unfolding has_flag
-  unflagged y = flag_none plain_object y c out false refl refl room.bool
+  pub marked-cut : mark_of (drop from.next (bits s)) ≡ fail → (r : Option Emitted) → r ≡ None → (out : List ℕ) → element_part r out
+  unfolding emit_element unmarked
+  marked-cut h r er out = parts-cut o child measure S s (OfObject ob) false _ _ from h r er out
 
-  as-element : (w : Bool) (q : Places) (out₁ : List ℕ) (n : ℕ) → EmittedAt s (emit_member child measure o S plain_object (state_of c out) (drop pos (bits s))) pos c 0 w q out₁ n
-      → EmittedAt s (emit_element child measure o S (OfObject ob) (state_of c out) (drop pos (bits s))) pos c 0 w q out₁ n
-  as-element w q out₁ n t = element-marked o child measure S s (OfObject ob) c out pos w q out₁ n false (sym (object-marked ob)) refl t
+  module _ (m : Marked) (taken : MarkedAt s from.next m) where
+    pub marked_bad : m.mark ≡ Mark.Unknown → (out : List ℕ) → element_part None out
+    unfolding emit_element unmarked emit_part pass
+    marked_bad e out = marks-fail s from _ _ _ m taken e refl out
 
-  pub marked-cut : not whole ≡ true → (w : Bool) (q : Places) (n : ℕ) → w ≡ false → q ≡ c → n ≡ pos
-      → EmittedAt s (emit_element child measure o S (OfObject ob) (state_of c out) (drop pos (bits s))) pos c 0 w q out n
-  marked-cut h w q n ew eq en = as-element w q out n (part_cut o child measure S s plain_object c out pos room whole x next taken h w q n ew eq en)
+    -- whose size is not found, since the object is not lawful
+    pub marked_unlawful : m.mark ≡ Mark.Present → MeasuredAt false (measure ob (drop m.next (bits s))) None → Room s from → (r : Option Emitted) → r ≡ None → (out : List ℕ) → element_part r out
+    unfolding emit_element unmarked emit_part emit_body
+    marked_unlawful z n room r er out =
+        marks-there s from _ _ _ m taken room from.places 0 (omega arith) r out z
+        (refer-none o child measure S s false ob (record { places = from.places; next = m.next }) 0 _ out n r er)
 
-  module _ (h : not whole ≡ false) where
-    pub marked_there : o ≤ 6 → x ≡ 1 → (w : Bool) (q : Places) (out₂ : List ℕ) (n : ℕ) → EmittedAt s (emit_refer child measure o S false ob (state_of c out) (drop next (bits s))) next c o w q out₂ n
-        → EmittedAt s (emit_element child measure o S (OfObject ob) (state_of c out) (drop pos (bits s))) pos c 0 w q out₂ n
-    marked_there most z w q out₂ n t =
-        as-element w q out₂ n (part_there o child measure S s plain_object c out pos room whole x next taken h most z c out (unflagged 1) w q out₂ n
-        (body-object o child measure S s (OfObject ob) false c out next w q out₂ n ob refl t))
+    module _ (room : Room s from) where
+      pub marked_there : o ≤ 6 → m.mark ≡ Mark.Present → (g : Emitted) → g ≡ record { places = from.places; next = m.next } → (r : Option Emitted) (out : List ℕ)
+          → EmittedAt s (emit_refer child measure o S false ob (state_of g.places o₀) (drop g.next (bits s))) g o r out → element_part r out
+      unfolding emit_element unmarked
+      marked_there most z g eg r out t =
+          parts_there o child measure S s (OfObject ob) false _ _ from m taken room most z from.places o₀ (unput from.places o₀ room.bool) g eg r out
+          (body-object o child measure S s (OfObject ob) false g o₀ ob refl r out t)
 
-    pub marked_none : o ≤ 6 → x ≡ 0 → (p : Places) (out₁ : List ℕ) → Stood o (put_number o 0 (state_of c out)) (state_of p out₁) c p → (w : Bool) (y : Places) (n : ℕ) → w ≡ true → y ≡ p → n ≡ next
-        → EmittedAt s (emit_element child measure o S (OfObject ob) (state_of c out) (drop pos (bits s))) pos c 0 w y out₁ n
-    marked_none most z p out₁ u w y n ew ey en =
-        as-element w y out₁ n (part_none o child measure S s plain_object c out pos room whole x next taken h (λ e. (let v : ⊥ = omega arith in v)) (λ e. (let v : ⊥ = omega arith in v)) c out (unflagged 0) p out₁
-        (lacks-object o S (OfObject ob) c p out out₁ most ob refl room.bool u) z w y n ew ey en)
-
-    pub marked_bad : (x ≡ 1 → ⊥) → (x ≡ 0 → ⊥) → (w : Bool) (q : Places) (n : ℕ) → w ≡ false → q ≡ c → n ≡ pos
-        → EmittedAt s (emit_element child measure o S (OfObject ob) (state_of c out) (drop pos (bits s))) pos c 0 w q out n
-    unfolding emit_element emit_part survey_mark bind unmarked pass
-    marked_bad h1 h0 w q n ew eq en =
-        refused s _ pos c 0 (rw (taken.number, not-false whole h) (simp (ne_eqb x 0 h0, ne_eqb x 1 h1) (by (eqb x 2)))) room w q out n ew eq en
-      where
-        by : (t : Bool) → ◌≡◌ {A = Parsed State} (pick t fail fail) fail
-        by true = refl
-        by false = refl
+      pub marked_none : o ≤ 6 → m.mark ≡ Mark.Absent → (p : Places) (out₁ : List ℕ) → Stood o (put_number o 0 (state_of from.places o₀)) (state_of p out₁) from.places p
+          → (y : Emitted) → y ≡ record { places = p; next = m.next } → element_part (Some y) out₁
+      unfolding emit_element unmarked
+      marked_none most z p out₁ u y ey =
+          parts_none o child measure S s (OfObject ob) false _ _ from m taken room p out₁
+          (lacks_absent _ _ from.places p (lacks-object o S (OfObject ob) from.places p o₀ out₁ most ob refl room.bool u)) z y ey
 
 -- ---- kinds
 pub terminal_told : (k : Kind) (inplace t : Bool) → t ≡ is_terminal k inplace → t ≡ true → is_terminal k inplace ≡ true
@@ -378,9 +437,6 @@ pub union-refers : (k : Kind) (i : ℕ) → k ≡ OfUnion i → refers k ≡ tru
 unfolding refers
 union-refers k i e = rw e
 
-pub blob_by_offset : (ob : Object) (inplace r : Bool) → inplace ≡ false → r ≡ is_blob ob → r ≡ (not inplace && is_blob ob)
-blob_by_offset ob inplace r e er = rw e er
-
 pub terminal_offset : (k : Kind) (inplace : Bool) (ob : Object) → k ≡ OfObject ob → (r : Bool) → r ≡ (not inplace && is_blob ob) → r ≡ is_terminal k inplace
 unfolding is_terminal
 terminal_offset k inplace ob e r er = rw e er
@@ -393,70 +449,14 @@ terminal-blob k inplace ob e h = by inplace (subst (λ (q : Kind). is_terminal q
     by true g = never g
     by false g = g
 
--- ---- what is there
-module _ (o : ℕ) (child : Emitter) (measure : Surveyor) (S : Schema) (s : List ℕ) (k : Kind) (inplace : Bool) (c : Places) (out : List ℕ) (pos : ℕ) (w : Bool) (q : Places) (out₁ : List ℕ) (n : ℕ) where
-  pub body_terminal : (ob : Object) → k ≡ OfObject ob → is_terminal k inplace ≡ true → EmittedAt s (emit_refer child measure o S false ob (state_of c out) (drop pos (bits s))) pos c o w q out₁ n
-      → EmittedAt s (emit_body child measure o S k inplace (state_of c out) (drop pos (bits s))) pos c (extra o k) w q out₁ n
-  unfolding is_terminal
-  body_terminal ob e h t = by inplace (subst (λ (q : Kind). is_terminal q inplace ≡ true) e h)
-    where
-      by : (i : Bool) → (not i && is_blob ob) ≡ true → EmittedAt s (emit_body child measure o S k i (state_of c out) (drop pos (bits s))) pos c (extra o k) w q out₁ n
-      by true g = never g
-      by false g = body-object o child measure S s k false c out pos w q out₁ n ob e t
-
-  pub body_no_terminal : (i : ℕ) → k ≡ OfUnion i → is_terminal k inplace ≡ true → EmittedAt s (emit_body child measure o S k inplace (state_of c out) (drop pos (bits s))) pos c (extra o k) w q out₁ n
-  unfolding is_terminal
-  body_no_terminal i e h = never (subst (λ (q : Kind). is_terminal q inplace ≡ true) e h)
-
-  pub body_no-flat : (f : Flat) → k ≡ OfFlat f → refers k ≡ true → EmittedAt s (emit_body child measure o S k inplace (state_of c out) (drop pos (bits s))) pos c (extra o k) w q out₁ n
-  unfolding refers
-  body_no-flat f e h = never (subst (λ (q : Kind). refers q ≡ true) e h)
-
--- ---- with a mark and no flag
-module _ (o : ℕ) (child : Emitter) (measure : Surveyor) (S : Schema) (s : List ℕ) (k : Kind) (inplace : Bool) (c : Places) (out : List ℕ) (pos : ℕ) (room : Room s pos c)
-    (whole : Bool) (x next : ℕ) (taken : TakenNumber s pos 2 whole x next) where
-  abbrev plain_part : Member
-  plain_part = record { kind = k; optional = false; inplace = inplace }
-
-  no_bit : (y : ℕ) → BitPut (flagged plain_part y (state_of c out)) (state_of c out) c c
-  unfolding has_flag
-  no_bit y = flag_none plain_part y c out false refl refl room.bool
-
-  as_unflagged : (w : Bool) (q : Places) (out₁ : List ℕ) (n : ℕ) → EmittedAt s (emit_member child measure o S plain_part (state_of c out) (drop pos (bits s))) pos c 0 w q out₁ n
-      → EmittedAt s (emit_unflagged child measure o S k inplace (state_of c out) (drop pos (bits s))) pos c 0 w q out₁ n
-  unfolding emit_member flagged has_flag emit_unflagged
-  as_unflagged w q out₁ n t = t
-
-  pub unflagged-cut : not whole ≡ true → (w : Bool) (q : Places) (n : ℕ) → w ≡ false → q ≡ c → n ≡ pos
-      → EmittedAt s (emit_unflagged child measure o S k inplace (state_of c out) (drop pos (bits s))) pos c 0 w q out n
-  unflagged-cut h w q n ew eq en = as_unflagged w q out n (part_cut o child measure S s plain_part c out pos room whole x next taken h w q n ew eq en)
-
-  module _ (h : not whole ≡ false) where
-    pub unflagged_there : o ≤ 6 → x ≡ 1 → (w : Bool) (q : Places) (out₂ : List ℕ) (n : ℕ) → EmittedAt s (emit_body child measure o S k inplace (state_of c out) (drop next (bits s))) next c (extra o k) w q out₂ n
-        → EmittedAt s (emit_unflagged child measure o S k inplace (state_of c out) (drop pos (bits s))) pos c 0 w q out₂ n
-    unflagged_there most z w q out₂ n t = as_unflagged w q out₂ n (part_there o child measure S s plain_part c out pos room whole x next taken h most z c out (no_bit 1) w q out₂ n t)
-
-    module _ (h1 : x ≡ 1 → ⊥) where
-      pub unflagged_bad : x ≡ 3 → (w : Bool) (q : Places) (n : ℕ) → w ≡ false → q ≡ c → n ≡ pos
-          → EmittedAt s (emit_unflagged child measure o S k inplace (state_of c out) (drop pos (bits s))) pos c 0 w q out n
-      unflagged_bad z w q n ew eq en = as_unflagged w q out n (part_bad o child measure S s plain_part c out pos room whole x next taken h h1 z w q n ew eq en)
-
-      module _ (h3 : x ≡ 3 → ⊥) (q : Places) (out₂ : List ℕ) (l : Lacks (lack o S k (state_of c out)) (state_of q out₂) c q) where
-        pub unflagged_none : x ≡ 0 → (w : Bool) (y : Places) (n : ℕ) → w ≡ true → y ≡ q → n ≡ next
-            → EmittedAt s (emit_unflagged child measure o S k inplace (state_of c out) (drop pos (bits s))) pos c 0 w y out₂ n
-        unflagged_none z w y n ew ey en =
-            as_unflagged w y out₂ n (part_none o child measure S s plain_part c out pos room whole x next taken h h1 h3 c out (no_bit 0) q out₂ l z w y n ew ey en)
-
-        pub unflagged-pass : (x ≡ 0 → ⊥) → (w : Bool) (y : Places) (out₃ : List ℕ) (n : ℕ) → EmittedAt s (pass S k (state_of q out₂) (drop next (bits s))) next q 0 w y out₃ n
-            → EmittedAt s (emit_unflagged child measure o S k inplace (state_of c out) (drop pos (bits s))) pos c 0 w y out₃ n
-        unflagged-pass h0 w y out₃ n t =
-            as_unflagged w y out₃ n (part-pass o child measure S s plain_part c out pos room whole x next taken h h1 h3 c out (no_bit 0) q out₂ l h0 w y out₃ n t)
-
--- behind what stands for no value
-pub room_lacked : (s : List ℕ) (pos : ℕ) (c : Places) → Room s pos c → (whole : Bool) (x next : ℕ) → TakenNumber s pos 2 whole x next → not whole ≡ false
-    → (put now : State) (q : Places) → Lacks put now c q → Room s next q
-room_lacked s pos c room whole x next taken h put now q k =
-    room-lack s pos c room whole x next taken h now now c (record { is = refl; bool = room.bool; at = omega arith; tail = refl; next = refl }) put now q k
+-- a text and bytes are of every schema
+pub blob_sound : (S : Schema) (ob : Object) → is_blob ob ≡ true → ObjectSound S ob
+unfolding is_blob
+blob_sound S O.Text h = tt
+blob_sound S O.Bytes h = tt
+blob_sound S (O.List i) h = never h
+blob_sound S (O.Table i) h = never h
+blob_sound S (O.DirectList i) h = never h
 
 -- a member that leads to an object has no flag
 no_flag : (r : Member) → refers r.kind ≡ true → has_flag r ≡ false
@@ -470,21 +470,21 @@ no_flag r h = by r.kind r.optional h
     by (OfUnion i) true g = unfold takes_flag in refl
     by (OfUnion i) false g = refl
 
-pub unflagged-member : (o : ℕ) (child : Emitter) (measure : Surveyor) (S : Schema) (s : List ℕ) (r : Member) → refers r.kind ≡ true → (st : State) (xs : List ℕ) (pos : ℕ) (c : Places)
-    (w : Bool) (q : Places) (out₁ : List ℕ) (n : ℕ) → EmittedAt s (emit_unflagged child measure o S r.kind r.inplace st xs) pos c 0 w q out₁ n
-    → EmittedAt s (emit_member child measure o S r st xs) pos c 0 w q out₁ n
+pub unflagged-member : (o : ℕ) (child : Emitter) (measure : Surveyor) (S : Schema) (s : List ℕ) (m : Member) → refers m.kind ≡ true → (st : State) (xs : List ℕ) (from : Emitted)
+    (r : Option Emitted) (out : List ℕ) → EmittedAt s (emit_unflagged child measure o S m.kind m.inplace st xs) from 0 r out
+    → EmittedAt s (emit_member child measure o S m st xs) from 0 r out
 unfolding emit_member emit_unflagged flagged
-unflagged-member o child measure S s r h st xs pos c w q out₁ n t = rw (no_flag r h) t
+unflagged-member o child measure S s m h st xs from r out t = rw (no_flag m h) t
 
 -- ---- elements with a mark
-module _ (o : ℕ) (child : Emitter) (measure : Surveyor) (S : Schema) (s : List ℕ) (k : Kind) (h : unmarked k ≡ false) (c : Places) (out : List ℕ) (pos : ℕ) (w : Bool) (q : Places) (out₁ : List ℕ) (n : ℕ) where
-  pub element-flat : (f : Flat) → k ≡ OfFlat f → EmittedAt s (emit_marked_flat S f (state_of c out) (drop pos (bits s))) pos c 0 w q out₁ n
-      → EmittedAt s (emit_element child measure o S k (state_of c out) (drop pos (bits s))) pos c 0 w q out₁ n
+module _ (o : ℕ) (child : Emitter) (measure : Surveyor) (S : Schema) (s : List ℕ) (k : Kind) (h : unmarked k ≡ false) (from : Emitted) (out : List ℕ) (r : Option Emitted) (out₁ : List ℕ) where
+  pub element-flat : (f : Flat) → k ≡ OfFlat f → EmittedAt s (emit_marked_flat S f (state_of from.places out) (drop from.next (bits s))) from 0 r out₁
+      → EmittedAt s (emit_element child measure o S k (state_of from.places out) (drop from.next (bits s))) from 0 r out₁
   unfolding emit_element emit_part emit_marked_flat survey_mark lack pass emit_body
   element-flat f e t = rw (h, e) t
 
-  pub element-refers : EmittedAt s (emit_unflagged child measure o S k false (state_of c out) (drop pos (bits s))) pos c 0 w q out₁ n
-      → EmittedAt s (emit_element child measure o S k (state_of c out) (drop pos (bits s))) pos c 0 w q out₁ n
+  pub element-refers : EmittedAt s (emit_unflagged child measure o S k false (state_of from.places out) (drop from.next (bits s))) from 0 r out₁
+      → EmittedAt s (emit_element child measure o S k (state_of from.places out) (drop from.next (bits s))) from 0 r out₁
   unfolding emit_element emit_unflagged
   element-refers t = rw h t
 

@@ -1,12 +1,12 @@
 -- The pass goes forward: no part of it leaves more of the sheet than it was given.
 use mathlib.Core.Path.{◌≡◌, subst}
-use mathlib.Core.Bool.{Bool, true, false, ◌&&◌, not}
+use mathlib.Core.Bool.{Bool, true, false, ◌&&◌}
+use Rattle.std.specs.Prelude.{Some}
 use mathlib.Core.List.{List, [], ◌∷◌}
 use Prim.Native.Nat.{ℕ, zero, suc, ◌*◌, ◌≤◌}
 use native.Mathlib.Omega.{arith}
 use lib.ListN.{length, drop, length-drop}
 use lib.Dec.{leb, eqb}
-use borrow.Author.Tests.{not-false}
 use Rattle.coding.specs.Lists.{pick}
 use Rattle.coding.specs.Bits.{bits}
 use Rattle.coding.specs.Schema as Sc
@@ -24,9 +24,8 @@ use Rattle.laws.specs.Bits.{bits-length}
 use Rattle.write_measure.specs.Survey.{below_count, above_count, survey_mark, Surveyor, survey}
 use Rattle.write_store.specs.State.{State, enter_content, enter_part, put_number, put_byte}
 use Rattle.write_pass.specs.EmitSheet.{Emitter, put_nothing, open_object, emit_number, emit_if, emit_field, emit_fields, emit_by, emit_nothing, emit_struct, emit_flat, lack, pass_flat, pass, emit_object, emit_content_at, emit_refer, emit_choice, emit_body, emit_part, emit_element, flagged, emit_members, emit_elements, direct_head, emit_direct, emit_directs, emit_blob, emit_content, emit}
-use Rattle.write_store.specs.Storing.{state_of}
 use Rattle.write_pass.specs.Emitting.{EmittedAt}
-use Rattle.write_store.specs.declared.Places.{Places}
+use Rattle.write_pass.specs.declared.Emitted.{Emitted}
 
 -- the bits that are left
 unfoldable left : {A : Type 0} → Parsed A → ℕ
@@ -192,16 +191,14 @@ emit_left zero o S ob st xs n l = fail_left n
 emit_left (suc d) o S ob st xs n l = content_left (emit d o S) (survey d o S) o S (emit_left d o S) ob st xs n l
 
 -- so the sheet goes on behind where it was
-pub emitted_on : (d o : ℕ) (S : Schema) (s : List ℕ) (ob : Object) (st : State) (pos : ℕ) (from : Places) (e : ℕ) (whole : Bool) (c : Places) (out : List ℕ) (end : ℕ)
-    → EmittedAt s (emit d o S ob st (drop pos (bits s))) pos from e whole c out end → pos ≤ 8 * length s → not whole ≡ false → pos ≤ end
+pub emitted_on : (d o : ℕ) (S : Schema) (s : List ℕ) (ob : Object) (st : State) (g from : Emitted) (e : ℕ) (x : Emitted) (out : List ℕ)
+    → EmittedAt s (emit d o S ob st (drop g.next (bits s))) from e (Some x) out → g.next ≤ 8 * length s → g.next ≤ x.next
 unfolding left
-emitted_on d o S s ob st pos from e whole c out end t l h =
-    let a : left (pick whole (got (state_of c out) (drop end (bits s))) fail) ≤ length (drop pos (bits s)) =
-    subst (λ (p : Parsed State). left p ≤ length (drop pos (bits s))) t.is (emit_left d o S ob st (drop pos (bits s)) (length (drop pos (bits s))) (omega arith)) in
-    let b : length (drop end (bits s)) ≤ length (drop pos (bits s)) =
-    subst (λ (u : Bool). left (pick u (got (state_of c out) (drop end (bits s))) fail) ≤ length (drop pos (bits s))) (not-false whole h) a in
-    let i = t.here in
-    let f = length-drop end (bits s) in
-    let g = length-drop pos (bits s) in
+emitted_on d o S s ob st g from e x out t l =
+    let b : length (drop x.next (bits s)) ≤ length (drop g.next (bits s)) =
+    subst (λ (p : Parsed State). left p ≤ length (drop g.next (bits s))) t.is (emit_left d o S ob st (drop g.next (bits s)) (length (drop g.next (bits s))) (omega arith)) in
+    let i = t.reached.here in
+    let f = length-drop x.next (bits s) in
+    let h = length-drop g.next (bits s) in
     let k = bits-length s in
     omega arith

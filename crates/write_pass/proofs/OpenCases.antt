@@ -160,29 +160,15 @@ module _ (o : ℕ) (S : Schema) (ob : Object) (inplace : Bool) (x : Extent) (c r
   unfolding opened
   opened-object e out out₁ t = rw e t
 
--- ---- texts and bytes by their offset
-module _ (ob : Object) (h : is_blob ob ≡ true) where
-  pub not_list : (i : ℕ) → ob ≡ O.List i → ⊥
-  unfolding is_blob
-  not_list i e = never (subst (λ (q : Object). is_blob q ≡ true) e h)
+-- ---- texts and bytes
+pub no_other : (ob : Object) → is_blob ob ≡ true → (ob ≡ O.Text → ⊥) → (ob ≡ O.Bytes → ⊥) → ⊥
+unfolding is_blob
+no_other O.Text h t b = t refl
+no_other O.Bytes h t b = b refl
+no_other (O.List i) h t b = never h
+no_other (O.Table i) h t b = never h
+no_other (O.DirectList i) h t b = never h
 
-  pub not_table : (i : ℕ) → ob ≡ O.Table i → ⊥
-  unfolding is_blob
-  not_table i e = never (subst (λ (q : Object). is_blob q ≡ true) e h)
-
-  pub not-direct : (t : ℕ) → ob ≡ O.DirectList t → ⊥
-  unfolding is_blob
-  not-direct t e = never (subst (λ (q : Object). is_blob q ≡ true) e h)
-
-  pub magic_no_list : (S : Schema) (i : ℕ) → ob ≡ O.List i → 0 ≡ magic S ob
-  magic_no_list S i e = absurd (not_list i e)
-
-  pub magic_no-table : (S : Schema) (i : ℕ) → ob ≡ O.Table i → 0 ≡ magic S ob
-  magic_no-table S i e = absurd (not_table i e)
-
-  pub magic_no-direct : (S : Schema) (t : ℕ) → ob ≡ O.DirectList t → 0 ≡ magic S ob
-  magic_no-direct S t e = absurd (not-direct t e)
-
-pub terminal-opened : (o : ℕ) (S : Schema) (ob : Object) (x : Extent) (c r : Places) (out out₁ : List ℕ) (mg : ℕ) → mg ≡ magic S ob
-    → Opens o (headed o mg x (state_of c out)) (state_of r out₁) r → Opens o (opened o S ob false x (state_of c out)) (state_of r out₁) r
-terminal-opened o S ob x c r out out₁ mg em t = opened-object o S ob false x c r refl out out₁ (object-opened o S ob x c r out out₁ mg em t)
+pub object-by_offset : (o : ℕ) (S : Schema) (ob : Object) (x : Extent) (c r : Places) (out out₁ : List ℕ) → Opens o (open_object o S ob x (state_of c out)) (state_of r out₁) r
+    → Opens o (opened o S ob false x (state_of c out)) (state_of r out₁) r
+object-by_offset o S ob x c r out out₁ t = opened-object o S ob false x c r refl out out₁ t

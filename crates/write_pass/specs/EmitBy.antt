@@ -1,7 +1,7 @@
 -- What the contracts of this crate say, in few words: the pass over each part by the schema's bytes b, and what a function
--- stores and answers for the sheet s from bit `pos` and the places c on. `o` is the width of an offset in bytes; d objects may
+-- stores and answers for the sheet s from `from` on. `o` is the width of an offset in bytes; d objects may
 -- stand below.
-use Rattle.std.specs.Prelude.{ℕ, List, Bool, length, drop}
+use Rattle.std.specs.Prelude.{ℕ, List, Bool, Option, length, drop}
 use Rattle.coding.specs.Bits.{bits}
 use Rattle.coding.specs.Schema.{cases_of}
 use Rattle.coding.specs.Packed.{parse}
@@ -14,10 +14,9 @@ use Rattle.write_measure.specs.Survey.{above_count, survey}
 use Rattle.write_measure.specs.declared.Extent.{Extent}
 use Rattle.write_store.specs.State.{State}
 use Rattle.write_store.specs.Storing.{state_of}
-use Rattle.write_store.specs.declared.Places.{Places}
 use Rattle.write_pass.specs.EmitSheet.{put_nothing, emit_if, emit_field, emit_struct, emit_flat, pass, emit_refer, emit_choice, emit_body, emit_element, emit_elements, emit_direct, emit_directs, emit_content, emit}
 use Rattle.write_pass.specs.Emitting.{emit_member, emit_unflagged, EmittedAt}
-use Rattle.write_pass.specs.Measure.{Measured}
+use Rattle.write_pass.specs.Measure.{Measured, MeasuredAt}
 use Rattle.write_pass.specs.declared.Emitted.{Emitted}
 
 -- ---- what leads to no object
@@ -81,10 +80,14 @@ module _ (o d : ℕ) (b : List ℕ) where
   content ob st xs = emit_content (emit d o (parse b)) (survey d o (parse b)) o (parse b) ob st xs
 
   -- e has the sizes of the object
-  abbrev pub Measures : Bool → Object → List ℕ → ℕ → Extent → Type 0
-  Measures inplace ob s pos e = Measured inplace (survey d o (parse b) ob (drop pos (bits s))) e
+  abbrev pub HasSizes : Bool → Object → List ℕ → ℕ → Extent → Type 0
+  HasSizes inplace ob s pos e = Measured inplace (survey d o (parse b) ob (drop pos (bits s))) e
+
+  -- the object was measured
+  abbrev pub Measures : Bool → Object → List ℕ → ℕ → Option Extent → Type 0
+  Measures inplace ob s pos r = MeasuredAt inplace (survey d o (parse b) ob (drop pos (bits s))) r
 
 -- ---- answers
 -- f makes the buffer `after` of the buffer `before`, and answers r; it may take e bytes beyond what the sheet's bits pay for
-abbrev pub Emits : List ℕ → ℕ → (State → List ℕ → Parsed State) → Places → List ℕ → ℕ → Emitted → List ℕ → Type 0
-Emits s pos f c before e r after = EmittedAt s (f (state_of c before) (drop pos (bits s))) pos c e r.whole r.places after r.next
+abbrev pub Emits : List ℕ → Emitted → (State → List ℕ → Parsed State) → List ℕ → ℕ → Option Emitted → List ℕ → Type 0
+Emits s from f before e r after = EmittedAt s (f (state_of from.places before) (drop from.next (bits s))) from e r after

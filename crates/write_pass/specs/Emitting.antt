@@ -1,6 +1,6 @@
--- What the code of the pass answers, against the definitions: whether a part of the sheet is lawful, where the message goes
--- on, and where the sheet does.
-use Rattle.std.specs.Prelude.{ℕ, ◌+◌, ◌*◌, ◌^◌, ◌≤◌, ◌<◌, ◌≡◌, List, [], Bool, true, false, ◌&&◌, not, length, drop}
+-- What the code of the pass answers, against the definitions: where the message goes on and where the sheet does, if the part
+-- of the sheet is lawful.
+use Rattle.std.specs.Prelude.{ℕ, ◌+◌, ◌*◌, ◌^◌, ◌≤◌, ◌<◌, ◌≡◌, List, [], Bool, true, false, ◌&&◌, not, Option, Some, None, IfSome, length, drop}
 use Rattle.coding.specs.Lists.{pick}
 use Rattle.coding.specs.Bytes.{no_float}
 use Rattle.coding.specs.Bits.{bits}
@@ -18,6 +18,8 @@ use Rattle.write_store.specs.State.{State, enter_object, enter_content, put_byte
 use Rattle.write_pass.specs.EmitSheet.{Emitter, put_nothing, emit_if, open_object, emit_part, flagged, emit_number, lack_flat, pass_flat, emit_flat, emit_blob}
 use Rattle.write_store.specs.Storing.{state_of, left_object, left_content, HeldOk, forward}
 use Rattle.write_store.specs.declared.Places.{Places}
+use Rattle.write_pass.specs.declared.Copied.{Copied}
+use Rattle.write_pass.specs.declared.Emitted.{Emitted}
 
 -- ---- moves of the places
 unfoldable pub closed : Bool → Places → Places → Places
@@ -72,13 +74,13 @@ is_terminal (OfUnion i) inplace = false
 
 -- ---- numbers that fit
 -- Every store takes bits of the sheet, at least one for 8192 bytes, but for a reference, which may take none.
-pub record Room (s : List ℕ) (pos : ℕ) (c : Places) : Type 0 where
+pub record Room (s : List ℕ) (from : Emitted) : Type 0 where
   pub short : length s ≤ 16777215
-  pub here : pos ≤ 8 * length s
-  pub at : c.at + 16 + 65536 * length s ≤ 2 ^ 60 + 8192 * pos
-  pub bool : HeldOk c
-  pub tail : c.tail ≤ 16777216
-  pub next : c.next ≤ 16777216
+  pub here : from.next ≤ 8 * length s
+  pub at : from.places.at + 16 + 65536 * length s ≤ 2 ^ 60 + 8192 * from.next
+  pub bool : HeldOk from.places
+  pub tail : from.places.tail ≤ 16777216
+  pub next : from.places.next ≤ 16777216
 
 -- the bytes that a part of the message may take beyond what its bits pay for: an offset or a length
 unfoldable pub extra : ℕ → Kind → ℕ
@@ -87,30 +89,52 @@ extra o (OfObject ob) = o
 extra o (OfUnion i) = o
 
 -- ---- answers
--- p is what the definition gives from `pos` and the places `from` on; e is what may be taken beyond what the bits pay for
-pub record EmittedAt (s : List ℕ) (p : Parsed State) (pos : ℕ) (from : Places) (e : ℕ) (whole : Bool) (c : Places) (out : List ℕ) (end : ℕ) : Type 0 where
-  pub is : p ≡ pick whole (got (state_of c out) (drop end (bits s))) fail
-  pub here : end ≤ 8 * length s
-  pub at : c.at + 8192 * pos ≤ from.at + e + 8192 * end
-  pub bool : HeldOk c
-  pub tail : c.tail ≤ 16777216
-  pub next : c.next ≤ 16777216
+-- what is given by an answer: the places and the buffer, and what is left of the sheet
+abbrev pub given : List ℕ → List ℕ → Option Emitted → Parsed State
+given s out None = fail
+given s out (Some x) = got (state_of x.places out) (drop x.next (bits s))
 
--- a text or bytes, of n bytes, was stored from `to` on, whatever places are there
-pub record CopiedAt (s o : List ℕ) (pos to : ℕ) (whole : Bool) (n next : ℕ) (out : List ℕ) : Type 0 where
-  pub is : (c : Places) → Room s pos c → c.at ≡ to
-      → EmittedAt s (emit_blob [] (state_of c o) (drop pos (bits s))) pos c 0 whole (pick whole (forward n c) c) out next
-  pub small : n < 2 ^ 32
+-- x is within the sheet and the message; e is what may be taken beyond what the bits behind `from` pay for
+pub record Reached (s : List ℕ) (from : Emitted) (e : ℕ) (x : Emitted) : Type 0 where
+  pub here : x.next ≤ 8 * length s
+  pub at : x.places.at + 8192 * from.next ≤ from.places.at + e + 8192 * x.next
+  pub bool : HeldOk x.places
+  pub tail : x.places.tail ≤ 16777216
+  pub next : x.places.next ≤ 16777216
+
+-- p is what the definition gives from `from` on
+pub record EmittedAt (s : List ℕ) (p : Parsed State) (from : Emitted) (e : ℕ) (r : Option Emitted) (out : List ℕ) : Type 0 where
+  pub is : p ≡ given s out r
+  pub reached : IfSome r (Reached s from e)
+
+-- behind the places from which a text or bytes were stored
+abbrev pub behind : Places → Option Copied → Option Emitted
+behind c None = None
+behind c (Some x) = Some (record { places = forward x.length c; next = x.next })
+
+-- a text or bytes were stored from `to` on, whatever places are there
+pub record CopiedAt (s o : List ℕ) (pos to : ℕ) (r : Option Copied) (out : List ℕ) : Type 0 where
+  pub is : (from : Emitted) → Room s from → from.next ≡ pos → from.places.at ≡ to
+      → EmittedAt s (emit_blob [] (state_of from.places o) (drop pos (bits s))) from 0 (behind from.places r) out
+  pub small : IfSome r (λ x. x.length < 2 ^ 32)
 
 -- the message as a whole
-pub record MessageAt (s : List ℕ) (p : Parsed State) (whole : Bool) (c : Places) (out : List ℕ) (end : ℕ) : Type 0 where
-  pub is : p ≡ pick whole (got (state_of c out) (drop end (bits s))) fail
+pub record MessageAt (s : List ℕ) (p : Parsed State) (r : Option Emitted) (out : List ℕ) : Type 0 where
+  pub is : p ≡ given s out r
 
 -- what stands for no value was put behind the places c
 pub record Lacks (put now : State) (c r : Places) : Type 0 where
   pub is : now ≡ put
   pub bool : HeldOk r
   pub at : r.at ≤ c.at + 4096
+  pub tail : r.tail ≡ c.tail
+  pub next : r.next ≡ c.next
+
+-- so was what stands for no value of a member, with its flag
+pub record Absent (put now : State) (c r : Places) : Type 0 where
+  pub is : now ≡ put
+  pub bool : HeldOk r
+  pub at : r.at ≤ c.at + 4097
   pub tail : r.tail ≡ c.tail
   pub next : r.next ≡ c.next
 

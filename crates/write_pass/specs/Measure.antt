@@ -1,7 +1,7 @@
 -- What an object takes, known without a survey of what stands in it: its length and its width are those that it opens with, and
 -- nothing stands in place behind a text, bytes, a list, or a table without an in-place member.
 use Prim.Native.Nat.{ℕ, zero, suc, ◌+◌, ◌^◌, ◌<◌}
-use Rattle.std.specs.Prelude.{◌≡◌, Bool, ◌&&◌, eqb, length}
+use Rattle.std.specs.Prelude.{◌≡◌, Bool, ◌&&◌, Option, Some, None, MatchOption, IfSome, eqb, length}
 use Rattle.std.proofs.Math.Path.{refl, sym, ap}
 use Rattle.std.proofs.Common.{ap₂, ◌∙◌, subst, arith}
 use mathlib.Core.List.{List, [], ◌∷◌}
@@ -36,15 +36,22 @@ pub record Measured (inplace : Bool) (p : Parsed Extent) (r : Extent) : Type 0 w
   pub is : Has (Sizes inplace r) p
   pub small : Small r
 
--- of an object's content, whatever the survey of the objects below says
-pub record MeasuredContent (o : ℕ) (S : Schema) (ob : Object) (xs : List ℕ) (r : Extent) : Type 0 where
-  pub is : (child : Surveyor) → Has (Sizes false r) (survey_content child o S ob xs)
-  pub small : Small r
+-- what p gives was measured, if it gives something that is seen without its content
+pub record MeasuredAt (inplace : Bool) (p : Parsed Extent) (r : Option Extent) : Type 0 where
+  pub is : MatchOption r (p ≡ fail) (Measured inplace p)
 
--- where it is not 0, n is the length and the width of the object, whatever its sheet is, and nothing stands in place behind it
-pub record KnownSize (o : ℕ) (S : Schema) (ob : Object) (n : ℕ) : Type 0 where
-  pub is : 0 < n → (d : ℕ) (xs : List ℕ) → Has (Sizes false (opened n n)) (survey d o S ob xs)
+-- an object's content was measured, whatever the survey of the objects below says
+pub record MeasuredContent (o : ℕ) (S : Schema) (ob : Object) (xs : List ℕ) (r : Option Extent) : Type 0 where
+  pub is : (child : Surveyor) → MeasuredAt false (survey_content child o S ob xs) r
+
+-- n is the length and the width of the object, whatever its sheet is, and nothing stands in place behind it
+pub record Known (o : ℕ) (S : Schema) (ob : Object) (n : ℕ) : Type 0 where
+  pub is : (d : ℕ) (xs : List ℕ) → Has (Sizes false (opened n n)) (survey d o S ob xs)
   pub small : n < 2 ^ 21
+
+-- the size of the object, if it is known
+pub record KnownSize (o : ℕ) (S : Schema) (ob : Object) (r : Option ℕ) : Type 0 where
+  pub known : IfSome r (Known o S ob)
 
 unfoldable pub any_in_place : List Member → Bool
 any_in_place [] = false
@@ -220,11 +227,18 @@ unfolding survey
 measured_deep zero o S inplace ob xs r h = tt
 measured_deep (suc d) o S inplace ob xs r h = h (survey d o S)
 
-pub measured-content : (d o : ℕ) (S : Schema) (inplace : Bool) (ob : Object) (xs : List ℕ) (r : Extent) → MeasuredContent o S ob xs r → Measured inplace (survey d o S ob xs) r
-measured-content d o S inplace ob xs r m =
+pub measured-content : (d o : ℕ) (S : Schema) (inplace : Bool) (ob : Object) (xs : List ℕ) (r : Option Extent) → MeasuredContent o S ob xs r
+    → MeasuredAt inplace (survey d o S ob xs) r
+unfolding survey
+measured-content zero o S inplace ob xs None m = record { is = refl }
+measured-content (suc d) o S inplace ob xs None m = record { is = (m.is (survey d o S)).is }
+measured-content d o S inplace ob xs (Some e) m =
     record {
-      is = measured_deep d o S inplace ob xs r (λ child. has_on (Sizes false r) (Sizes inplace r) (survey_content child o S ob xs) (m.is child) (λ x s. sizes_on inplace r x s));
-      small = m.small;
+      is = record {
+        is = measured_deep d o S inplace ob xs e
+            (λ child. has_on (Sizes false e) (Sizes inplace e) (survey_content child o S ob xs) (m.is child).is.is (λ x s. sizes_on inplace e x s));
+        small = (m.is (survey d o S)).is.small;
+      };
     }
 
 -- ---- direct lists

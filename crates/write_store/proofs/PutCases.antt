@@ -1,4 +1,4 @@
--- Moves of the places, and what is put behind them.
+-- What is put behind the places.
 use mathlib.Core.Path.{◌≡◌, refl, sym, ap, ap₂, ◌∙◌}
 use mathlib.Core.List.{List, [], ◌∷◌}
 use Prim.Native.Nat.{ℕ, ◌+◌}
@@ -8,46 +8,10 @@ use Rattle.coding.specs.Bytes.{le_bytes}
 use Rattle.coding.specs.Bits.{pack}
 use Rattle.coding.specs.Message.{zeros}
 use Rattle.laws.specs.Bits.{pack-length}
-use Rattle.write_measure.specs.Survey.{capped}
 use Rattle.write_measure.specs.SlotSizes.{length-le_bytes}
 use Rattle.write_store.specs.State.{put_bytes, put_byte, put_number}
-use Rattle.write_store.specs.Storing.{state_of, forward, entered_object, entered_content, left_object, left_content, entered_part, left_part, Stood}
+use Rattle.write_store.specs.Storing.{state_of, forward, Stood}
 use Rattle.write_store.specs.declared.Places.{Places}
-
--- ---- moves
-pub forward_is : (c : Places) (n : ℕ)
-    → ◌≡◌ {A = Places} (record { at = c.at + n; last = c.last; free = c.free; held = c.held; tail = c.tail; next = c.next }) (forward n c)
-unfolding forward
-forward_is c n = refl
-
-pub entered-object : (c : Places) (w chain t n : ℕ) → t ≡ capped (c.next + w) → n ≡ capped (c.next + w + chain)
-    → ◌≡◌ {A = Places} (record { at = c.next; last = 0; free = 0; held = 0; tail = t; next = n }) (entered_object w chain c)
-unfolding entered_object
-entered-object c w chain t n et en = ap₂ (λ (a b : ℕ). record { at = c.next; last = 0; free = 0; held = 0; tail = a; next = b }) et en
-
-pub entered-content : (c : Places) (w t : ℕ) → t ≡ capped (c.tail + w)
-    → ◌≡◌ {A = Places} (record { at = c.tail; last = 0; free = 0; held = 0; tail = t; next = c.next }) (entered_content w c)
-unfolding entered_content
-entered-content c w t et = ap (λ (a : ℕ). record { at = c.tail; last = 0; free = 0; held = 0; tail = a; next = c.next }) et
-
-pub left-object : (c i : Places)
-    → ◌≡◌ {A = Places} (record { at = c.at; last = c.last; free = c.free; held = c.held; tail = c.tail; next = i.next }) (left_object c i)
-unfolding left_object
-left-object c i = refl
-
-pub left-content : (c i : Places)
-    → ◌≡◌ {A = Places} (record { at = c.at; last = c.last; free = c.free; held = c.held; tail = i.tail; next = i.next }) (left_content c i)
-unfolding left_content
-left-content c i = refl
-
-pub entered-part : (c : Places) → ◌≡◌ {A = Places} (record { at = c.at; last = 0; free = 0; held = 0; tail = c.tail; next = c.next }) (entered_part c)
-unfolding entered_part
-entered-part c = refl
-
-pub left-part : (c inner : Places)
-    → ◌≡◌ {A = Places} (record { at = inner.at; last = c.last; free = c.free; held = c.held; tail = inner.tail; next = inner.next }) (left_part c inner)
-unfolding left_part
-left-part c inner = refl
 
 -- ---- runs of bytes
 stood : (c r : Places) (n : ℕ) (bs o o₁ : List ℕ) → length bs ≡ n → o₁ ≡ sets o c.at bs → r ≡ forward n c

@@ -1,140 +1,147 @@
--- Loops of stores: to store the rest from here is to store the whole from the start.
+-- Bytes stored into a buffer: those that lie in it.
+use Rattle.std.proofs.Common.{min}
+use Rattle.std.specs.Int.{byte_at, bytes_low_first}
 use mathlib.Core.Path.{◌≡◌, refl, sym, ap, ap₂, ◌∙◌}
-use mathlib.Core.List.{List, [], ◌∷◌, ◌++◌, append_assoc, append-nil}
-use Prim.Native.Nat.{ℕ, zero, suc, ◌+◌, ◌-◌, ◌/◌, ◌%◌, ◌<◌, ◌≤◌}
+use mathlib.Core.Bool.{Bool, true, false}
+use mathlib.Core.List.{List, [], ◌∷◌, ◌++◌, append_assoc}
+use Prim.Native.Nat.{ℕ, zero, suc, ◌+◌, ◌-◌, ◌/◌, ◌%◌, ◌^◌, ◌<◌, ◌≤◌}
 use native.Mathlib.Omega.{arith}
-use native.Mathlib.Nat.{zero-add, suc-add, div-div-eq-div-mul}
-use native.Mathlib.Numerals.{add-one}
-use lib.ListN.{length, take, drop, set, get_or, replicate, length-replicate, drop_of_length-le}
-use lib.Seq.{sets, sets-eq, drop-drop, drop-cons, set_at}
+use native.Mathlib.Nat.{div-div-eq-div-mul, div-one, pow-suc}
+use lib.ListN.{length, take, drop, get_or, replicate, length-replicate, take-append-drop, drop_of_length-le}
+use lib.Seq.{sets, sets-eq, length-sets, set_out, take_all, length-take-le, ext_get_or}
+use lib.Dec.{leb}
+use borrow.Author.Tests.{leb-true, leb-false}
 use borrow.Rule.Slice.PartMut.{mid_of, post_of, put_mid, mid_len, Post-is}
+use Rattle.std.proofs.lemmas.List.{take-replicate, get_or-replicate}
 use Rattle.coding.specs.Bytes.{le_bytes}
-use Rattle.coding.specs.Bits.{bits, value, pack}
-use Rattle.coding.specs.Message.{zeros}
+use Rattle.coding.specs.Bits.{value, pack}
 use Rattle.laws.specs.Bits.{pack-length}
 use Rattle.write_measure.specs.SlotSizes.{length-le_bytes}
 use Rattle.write_store.specs.Stores.{sets-append}
 
-module _ (w o o₁ : List ℕ) (i left b : ℕ) (h : 0 < left) (f : o₁ ≡ set o i b) where
-  pub number_turn : (v : ℕ) → w ≡ sets o i (le_bytes left v) → b ≡ v % 256 → w ≡ sets o₁ (i + 1) (le_bytes (left - 1) (v / 256))
-  unfolding le_bytes
-  number_turn v inv e =
-      let z : left ≡ suc (left - 1) = omega arith in
-      inv ∙ ap (λ (k : ℕ). sets o i (le_bytes k v)) z
-      ∙ ap (λ (l : List ℕ). sets l (suc i) (le_bytes (left - 1) (v / 256))) (sym (f ∙ ap (set o i) e))
-      ∙ ap (λ (k : ℕ). sets o₁ k (le_bytes (left - 1) (v / 256))) (sym (add-one i))
-
-  pub zeros_turn : w ≡ sets o i (replicate left 0) → b ≡ 0 → w ≡ sets o₁ (i + 1) (replicate (left - 1) 0)
-  zeros_turn inv e =
-      let z : left ≡ suc (left - 1) = omega arith in
-      inv ∙ ap (λ (k : ℕ). sets o i (replicate k 0)) z
-      ∙ ap (λ (l : List ℕ). sets l (suc i) (replicate (left - 1) 0)) (sym (f ∙ ap (set o i) e))
-      ∙ ap (λ (k : ℕ). sets o₁ k (replicate (left - 1) 0)) (sym (add-one i))
-
-  pub copy_turn : (s : List ℕ) (p : ℕ) → w ≡ sets o i (pack left (drop p (bits s))) → b ≡ value (take 8 (drop p (bits s)))
-      → w ≡ sets o₁ (i + 1) (pack (left - 1) (drop (p + 8) (bits s)))
-  unfolding pack
-  copy_turn s p inv e =
-      let z : left ≡ suc (left - 1) = omega arith in
-      inv ∙ ap (λ (k : ℕ). sets o i (pack k (drop p (bits s)))) z
-      ∙ ap (λ (l : List ℕ). sets l (suc i) (pack (left - 1) (drop 8 (drop p (bits s))))) (sym (f ∙ ap (set o i) e))
-      ∙ ap (λ (l : List ℕ). sets o₁ (suc i) (pack (left - 1) l)) (drop-drop 8 p (bits s))
-      ∙ ap (λ (k : ℕ). sets o₁ k (pack (left - 1) (drop (p + 8) (bits s)))) (sym (add-one i))
-
-module _ (w o : List ℕ) (i left : ℕ) (h : left ≤ 0) where
-  pub number_done : (v : ℕ) → w ≡ sets o i (le_bytes left v) → o ≡ w
-  unfolding le_bytes
-  number_done v inv = let z : left ≡ 0 = omega arith in sym (inv ∙ ap (λ (k : ℕ). sets o i (le_bytes k v)) z)
-
-  pub zeros_done : w ≡ sets o i (replicate left 0) → o ≡ w
-  zeros_done inv = let z : left ≡ 0 = omega arith in sym (inv ∙ ap (λ (k : ℕ). sets o i (replicate k 0)) z)
-
-  pub copy_done : (xs : List ℕ) → w ≡ sets o i (pack left xs) → o ≡ w
-  unfolding pack
-  copy_done xs inv = let z : left ≡ 0 = omega arith in sym (inv ∙ ap (λ (k : ℕ). sets o i (pack k xs)) z)
-
--- ---- runs of bytes one behind the other
--- what is left of a number behind its a lowest bytes
-abbrev past : ℕ → ℕ → ℕ
-past zero x = x
-past (suc a) x = past a (x / 256)
-
-bytes_split : (a b x : ℕ) → le_bytes (a + b) x ≡ le_bytes a x ++ le_bytes b (past a x)
+-- ---- the bytes of a number
+low_first : (i k x : ℕ) → bytes_low_first i k x ≡ le_bytes k (x / 256 ^ i)
 unfolding le_bytes
-bytes_split zero b x = ap (λ (k : ℕ). le_bytes k x) (zero-add b)
-bytes_split (suc a) b x = ap (λ (k : ℕ). le_bytes k x) (suc-add a b) ∙ ap (λ (l : List ℕ). x % 256 ∷ l) (bytes_split a b (x / 256))
-
-joined : (a b x y : ℕ) → y ≡ past a x → (o o₁ o₂ : List ℕ) (at : ℕ) → o₁ ≡ sets o at (le_bytes a x) → o₂ ≡ sets o₁ (at + a) (le_bytes b y) → o₂ ≡ sets o at (le_bytes (a + b) x)
-joined a b x y e o o₁ o₂ at f g =
-    g ∙ ap₂ (λ (l : List ℕ) (v : ℕ). sets l (at + a) (le_bytes b v)) f e
-    ∙ ap (λ (k : ℕ). sets (sets o at (le_bytes a x)) (at + k) (le_bytes b (past a x))) (sym (length-le_bytes a x))
-    ∙ sym (sets-append o at (le_bytes a x) (le_bytes b (past a x))) ∙ ap (λ (l : List ℕ). sets o at l) (sym (bytes_split a b x))
-
-past_two : (x : ℕ) → x / 65536 ≡ past 2 x
-past_two x = sym (div-div-eq-div-mul x 256 256)
-
-past_four : (x : ℕ) → x / 4294967296 ≡ past 4 x
-past_four x = sym (div-div-eq-div-mul x 65536 65536) ∙ ap (λ (k : ℕ). k / 65536) (past_two x) ∙ past_two (past 2 x)
-
-pub two-stored : (x a b : ℕ) → a ≡ x % 256 → b ≡ (x / 256) % 256 → (o : List ℕ) (at : ℕ) → set (set o at a) (at + 1) b ≡ sets o at (le_bytes 2 x)
-unfolding le_bytes
-two-stored x a b ea eb o at = ap (λ (k : ℕ). set (set o at a) k b) (add-one at) ∙ ap₂ (λ (p q : ℕ). set (set o at p) (suc at) q) ea eb
-
-module _ (x : ℕ) (o o₁ o₂ : List ℕ) (at : ℕ) where
-  pub four-stored : o₁ ≡ sets o at (le_bytes 2 x) → o₂ ≡ sets o₁ (at + 2) (le_bytes 2 (x / 65536)) → o₂ ≡ sets o at (le_bytes 4 x)
-  four-stored f g = joined 2 2 x (x / 65536) (past_two x) o o₁ o₂ at f g
-
-  pub six-stored : o₁ ≡ sets o at (le_bytes 4 x) → o₂ ≡ sets o₁ (at + 4) (le_bytes 2 (x / 4294967296)) → o₂ ≡ sets o at (le_bytes 6 x)
-  six-stored f g = joined 4 2 x (x / 4294967296) (past_four x) o o₁ o₂ at f g
-
-  pub eight-stored : o₁ ≡ sets o at (le_bytes 4 x) → o₂ ≡ sets o₁ (at + 4) (le_bytes 4 (x / 4294967296)) → o₂ ≡ sets o at (le_bytes 8 x)
-  eight-stored f g = joined 4 4 x (x / 4294967296) (past_four x) o o₁ o₂ at f g
-
-pub one-stored : (w x b : ℕ) (o o₁ : List ℕ) (at : ℕ) → w ≡ 1 → b ≡ x % 256 → o₁ ≡ set o at b → o₁ ≡ sets o at (le_bytes w x)
-unfolding le_bytes
-one-stored w x b o o₁ at e eb f = f ∙ ap (set o at) eb ∙ ap (λ (k : ℕ). sets o at (le_bytes k x)) (sym e)
-
-pub width-stored : (v w x : ℕ) (o o₁ : List ℕ) (at : ℕ) → w ≡ v → o₁ ≡ sets o at (le_bytes v x) → o₁ ≡ sets o at (le_bytes w x)
-width-stored v w x o o₁ at e f = f ∙ ap (λ (k : ℕ). sets o at (le_bytes k x)) (sym e)
-
--- a width that is not six is four
-pub narrow-stored : (o x : ℕ) (out out₁ : List ℕ) (at : ℕ) → (o ≡ 6 → ⊥) → 4 ≤ o → o ≤ 6 → o % 2 ≡ 0 → out₁ ≡ sets out at (le_bytes 4 x) → out₁ ≡ sets out at (le_bytes o x)
-narrow-stored o x out out₁ at h l u q f = let e : o ≡ 4 = omega arith in width-stored 4 o x out out₁ at e f
-
--- ---- a part of the buffer that was lent, and filled
-lent : (o ys bs : List ℕ) (at n : ℕ) → at + n ≤ length o → length bs ≡ n → ys ≡ bs → put_mid at (at + n - at) o ys ≡ sets o at bs
-lent o ys bs at n h l e =
-    let w : at ≤ at + n = omega arith in
-    let i : at + length bs ≤ length o = omega arith in
-    ap (λ (r : List ℕ). take at o ++ (r ++ post_of at (at + n - at) o)) e ∙ sym (append_assoc (take at o) bs (post_of at (at + n - at) o))
-    ∙ ap (λ (r : List ℕ). (take at o ++ bs) ++ r) (Post-is at (at + n) o w ∙ ap (λ (k : ℕ). drop (at + k) o) (sym l)) ∙ sym (sets-eq bs o at i)
-
-lent_length : (o : List ℕ) (at n : ℕ) → at + n ≤ length o → length (mid_of at (at + n - at) o) ≡ n
-lent_length o at n h = omega (arith, mid_len at (at + n) o h)
-
-module _ (o ys : List ℕ) (at n : ℕ) (h : at + n ≤ length o) where
-  pub copy-lent : (s : List ℕ) (pos : ℕ) → ys ≡ pack (length (mid_of at (at + n - at) o)) (drop pos (bits s))
-      → put_mid at (at + n - at) o ys ≡ sets o at (pack n (drop pos (bits s)))
-  copy-lent s pos e =
-      lent o ys (pack n (drop pos (bits s))) at n h (pack-length n (drop pos (bits s))) (e ∙ ap (λ (k : ℕ). pack k (drop pos (bits s))) (lent_length o at n h))
-
-  pub zeros-lent : ys ≡ replicate (length (mid_of at (at + n - at) o)) 0 → put_mid at (at + n - at) o ys ≡ sets o at (replicate n 0)
-  zeros-lent e = lent o ys (replicate n 0) at n h (length-replicate n 0) (e ∙ ap (λ (k : ℕ). replicate k 0) (lent_length o at n h))
-
--- zeros so far, and the rest as it was
-pub clear_turn : (o d : List ℕ) (j : ℕ) → d ≡ zeros j ++ drop j o → j < length o → set d j 0 ≡ zeros (j + 1) ++ drop (j + 1) o
-clear_turn o d j e h =
-    ap (λ (l : List ℕ). set l j 0) (e ∙ ap (λ (l : List ℕ). zeros j ++ l) (drop-cons o j 0 h)) ∙ stored (zeros j) (length-replicate j 0)
-    ∙ ap₂ (λ (l : List ℕ) (k : ℕ). l ++ drop k o) (one_more j) (sym (add-one j))
+low_first i zero x = refl
+low_first i (suc k) x = ap₂ (λ (b : ℕ) (l : List ℕ). b ∷ l) (byte i) (low_first (suc i) k x ∙ ap (le_bytes k) next)
   where
-    stored : (p : List ℕ) → length p ≡ j → set (p ++ get_or o j 0 ∷ drop (suc j) o) j 0 ≡ (p ++ 0 ∷ []) ++ drop (suc j) o
-    stored p l = set_at p (get_or o j 0) (drop (suc j) o) 0 j l ∙ sym (append_assoc p (0 ∷ []) (drop (suc j) o))
+    byte : (i : ℕ) → byte_at i x ≡ x / 256 ^ i % 256
+    byte zero = ap (λ (y : ℕ). y % 256) (sym (div-one x))
+    byte (suc i) = refl
 
-    one_more : (k : ℕ) → zeros k ++ (0 ∷ []) ≡ zeros (k + 1)
-    one_more zero = refl
-    one_more (suc k) = ap (λ (l : List ℕ). 0 ∷ l) (one_more k) ∙ ap zeros (sym (suc-add k 1))
+    next : x / 256 ^ suc i ≡ x / 256 ^ i / 256
+    next = ap (λ (y : ℕ). x / y) (pow-suc 256 i) ∙ sym (div-div-eq-div-mul x (256 ^ i) 256)
 
-pub clear_done : (o d : List ℕ) (j : ℕ) → d ≡ zeros j ++ drop j o → length o ≤ j → j ≤ length o → d ≡ zeros (length o)
-clear_done o d j e h g =
-    let z : j ≡ length o = omega arith in
-    e ∙ ap (λ (l : List ℕ). zeros j ++ l) (drop_of_length-le o h) ∙ append-nil (zeros j) ∙ ap (λ (k : ℕ). zeros k) z
+front : (w k x : ℕ) → w ≤ k → take w (le_bytes k x) ≡ le_bytes w x
+unfolding le_bytes
+front zero k x h = refl
+front (suc w) zero x h = absurd (omega arith)
+front (suc w) (suc k) x h = ap (λ (l : List ℕ). x % 256 ∷ l) (front w k (x / 256) (omega arith))
+
+number-bytes : (w x : ℕ) → w ≤ 8 → take w (bytes_low_first 0 8 x) ≡ le_bytes w x
+number-bytes w x h = ap (take w) (low_first 0 8 x ∙ ap (le_bytes 8) (div-one x)) ∙ front w 8 x h
+
+-- ---- what lies in the buffer
+sets_past : (o : List ℕ) (p : ℕ) (bs : List ℕ) → length o ≤ p → sets o p bs ≡ o
+sets_past o p [] h = refl
+sets_past o p (b ∷ bs) h = ap (λ (l : List ℕ). sets l (suc p) bs) (set_out o p b h) ∙ sets_past o (suc p) bs (omega arith)
+
+module _ (o bs : List ℕ) (at e : ℕ) (is : e ≡ min (length o) (at + length bs)) where
+  -- nothing of the bytes
+  none-stored : e ≤ at → o ≡ sets o at bs
+  none-stored h = sym (by (leb (length o) at) bs refl refl)
+    where
+      by : (t : Bool) (cs : List ℕ) → leb (length o) at ≡ t → cs ≡ bs → sets o at cs ≡ o
+      by true cs e f = sets_past o at cs (leb-true (length o) at e)
+      by false [] e f = refl
+      by false (b ∷ cs) g f =
+          let l = leb-false (length o) at g in
+          let k : suc (length cs) ≡ length bs = ap length f in
+          absurd (omega arith)
+
+  module _ (h : at ≤ e) where
+    abbrev part : List ℕ
+    part = take (e - at) bs
+
+    part_length : length part ≡ e - at
+    part_length = length-take-le (e - at) bs (omega arith)
+
+    -- the bytes that lie in the buffer are as good as all of them
+    clipped : sets o at part ≡ sets o at bs
+    clipped = sym (ap (sets o at) (sym (take-append-drop (e - at) bs)) ∙ sets-append o at part (drop (e - at) bs) ∙ by (leb (length o) e) refl)
+      where
+        by : (t : Bool) → leb (length o) e ≡ t → sets (sets o at part) (at + length part) (drop (e - at) bs) ≡ sets o at part
+        by true g =
+            let l = leb-true (length o) e g in
+            let s = length-sets o at part in
+            sets_past (sets o at part) (at + length part) (drop (e - at) bs) (omega (arith, part_length))
+        by false g =
+            let l = leb-false (length o) e g in
+            let z : length bs ≤ e - at = omega arith in
+            ap (sets (sets o at part) (at + length part)) (drop_of_length-le bs z)
+
+    stored : (ys : List ℕ) → ys ≡ part → put_mid at (e - at) o ys ≡ sets o at bs
+    stored ys ey =
+        let i : at + length part ≤ length o = omega (arith, part_length) in
+        let z : e ≡ at + length part = omega (arith, part_length) in
+        ap (λ (r : List ℕ). take at o ++ (r ++ post_of at (e - at) o)) ey ∙ sym (append_assoc (take at o) part (post_of at (e - at) o))
+        ∙ ap (λ (r : List ℕ). (take at o ++ part) ++ r) (Post-is at e o h ∙ ap (λ (k : ℕ). drop k o) z) ∙ sym (sets-eq part o at i)
+        ∙ clipped
+
+part-stored : (o ys bs : List ℕ) (at e : ℕ) → e ≡ min (length o) (at + length bs) → at < e → ys ≡ take (e - at) bs → put_mid at (e - at) o ys ≡ sets o at bs
+part-stored o ys bs at e is h ey = stored o bs at e is (omega arith) ys ey
+
+-- ---- the kinds of bytes
+module _ (o ys bs : List ℕ) (at w x : ℕ) (few : w ≤ 8) (eb : bs ≡ bytes_low_first 0 8 x) where
+  pub number-stored : at + w ≤ length o → ys ≡ take w bs → put_mid at (at + w - at) o ys ≡ sets o at (le_bytes w x)
+  number-stored h ey =
+      let l = length-le_bytes w x in
+      let z : at + w - at ≡ w = omega arith in
+      stored o (le_bytes w x) at (at + w) (omega arith) (omega arith) ys
+      (ey ∙ ap (take w) eb ∙ number-bytes w x few ∙ sym (take_all (at + w - at) (le_bytes w x) (omega arith)))
+
+  pub number-cut : (e : ℕ) → e ≡ min (length o) (at + w) → at < e → ys ≡ take (e - at) bs → put_mid at (e - at) o ys ≡ sets o at (le_bytes w x)
+  number-cut e is h ey =
+      let l = length-le_bytes w x in
+      part-stored o ys (le_bytes w x) at e (is ∙ ap (λ (k : ℕ). min (length o) (at + k)) (sym l)) h
+      (ey ∙ ap (take (e - at)) eb ∙ number-bytes (e - at) x (omega arith) ∙ sym (front (e - at) w x (omega arith)))
+
+pub number_none : (o : List ℕ) (at w x e : ℕ) → e ≡ min (length o) (at + w) → e ≤ at → o ≡ sets o at (le_bytes w x)
+number_none o at w x e is h = none-stored o (le_bytes w x) at e (is ∙ ap (λ (k : ℕ). min (length o) (at + k)) (sym (length-le_bytes w x))) h
+
+-- fewer bytes
+fewer : (k n : ℕ) (xs : List ℕ) → k ≤ n → take k (pack n xs) ≡ pack k xs
+unfolding pack
+fewer zero n xs h = refl
+fewer (suc k) zero xs h = absurd (omega arith)
+fewer (suc k) (suc n) xs h = ap (λ (l : List ℕ). value (take 8 xs) ∷ l) (fewer k n (drop 8 xs) (omega arith))
+
+module _ (o ys : List ℕ) (at e n : ℕ) (is : e ≡ min (length o) (at + n)) where
+  module _ (h : at < e) where
+    mid_length : length (mid_of at (e - at) o) ≡ e - at
+    mid_length = mid_len at e o (let z : e ≤ length o = omega arith in z)
+
+    pub zeros-stored : ys ≡ replicate (length (mid_of at (e - at) o)) 0 → put_mid at (e - at) o ys ≡ sets o at (replicate n 0)
+    zeros-stored ey =
+        let l = length-replicate {A = ℕ} n 0 in
+        part-stored o ys (replicate n 0) at e (is ∙ ap (λ (k : ℕ). min (length o) (at + k)) (sym l)) h
+        (ey ∙ ap (λ (k : ℕ). replicate k 0) mid_length ∙ sym (take-replicate (e - at) n 0 (omega arith)))
+
+    pub copy-stored : (xs : List ℕ) → ys ≡ pack (length (mid_of at (e - at) o)) xs → put_mid at (e - at) o ys ≡ sets o at (pack n xs)
+    copy-stored xs ey =
+        let l = pack-length n xs in
+        part-stored o ys (pack n xs) at e (is ∙ ap (λ (k : ℕ). min (length o) (at + k)) (sym l)) h
+        (ey ∙ ap (λ (k : ℕ). pack k xs) mid_length ∙ sym (fewer (e - at) n xs (omega arith)))
+
+  pub zeros_none : e ≤ at → o ≡ sets o at (replicate n 0)
+  zeros_none h = none-stored o (replicate n 0) at e (is ∙ ap (λ (k : ℕ). min (length o) (at + k)) (sym (length-replicate n 0))) h
+
+  pub copy_none : (xs : List ℕ) → e ≤ at → o ≡ sets o at (pack n xs)
+  copy_none xs h = none-stored o (pack n xs) at e (is ∙ ap (λ (k : ℕ). min (length o) (at + k)) (sym (pack-length n xs))) h
+
+-- zeros throughout
+pub cleared : (o d : List ℕ) (n : ℕ) → length d ≡ length o → length o ≤ n → ((k : ℕ) → k < n → get_or d k 0 ≡ 0) → d ≡ replicate (length o) 0
+cleared o d n l g h =
+    let e = length-replicate {A = ℕ} (length o) 0 in
+    ext_get_or 0 d (replicate (length o) 0) (l ∙ sym e)
+    (λ k f. h k (omega arith) ∙ sym (get_or-replicate (length o) k 0 0 (omega arith)))

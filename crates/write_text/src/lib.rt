@@ -30,23 +30,19 @@ fn is_text(s: &[u8], pos: usize, n: usize) -> bool
     requires { Fits s.now pos n }
     ensures { result ≡ is_text (pack n (drop pos (bits s.now))) }
 {
+    let blocks = n / 64;
     let mut w = utf8::BEGIN;
-    let mut j: usize = 0;
-    while 64 <= n - j {
-        w = after_bytes(s, pos + 8 * j, 64, w);
-        j += 64;
+    for j in 0..blocks {
+        w = after_bytes(s, pos + 512 * j, 64, w);
     }
-    w = after_bytes(s, pos + 8 * j, n - j, w);
-    utf8::may_end(w)
+    utf8::may_end(after_bytes(s, pos + 512 * blocks, n % 64, w))
 }
 
 // Whether the n bytes from bit pos on can be written, with `more` bytes behind them: 1 of a text, 0 of bytes.
+// Kept: `more` is a count, which `write_measure` adds to the length, and `Texts.blob_fine` goes by it.
 pub fn blob_fine(s: &[u8], pos: usize, n: usize, more: usize) -> bool
     requires { Fits s.now pos n }
     ensures { result ≡ blob_fine more (pack n (drop pos (bits s.now))) }
 {
-    if more == 0 {
-        return true;
-    }
-    is_text(s, pos, n)
+    more == 0 || is_text(s, pos, n)
 }

@@ -1,23 +1,12 @@
 -- The bits in the first byte, and those after it.
 use Rattle.bitio.proofs.Turns.{put_two, put_one, put_done}
 use Rattle.laws.specs.Bits.{bits-length}
-use lib.Pow.{pow_pos}
-use native.Mathlib.Nat.{mod-lt}
 use Rattle.coding.specs.Bits.{bits}
 use Rattle.bitio.specs.Splice.{splice}
-use Prim.Native.Nat.{◌+◌, ◌-◌, ◌*◌, ◌/◌, ◌^◌}
+use Prim.Native.Nat.{◌+◌, ◌-◌, ◌*◌, ◌/◌}
 use mathlib.Core.Path.{sym, ap, ◌∙◌}
 use native.Mathlib.Omega.{arith}
 use Rattle.bitio.proofs.put_short.Goals as goal
-
-pub put_in-requires : goal.put_in-requires
-put_in-requires c = let n = c.chunk-n.result in
-    let a = c.args in
-    record { n_bound = omega arith; n_bound_2 = omega arith; n_nonzero = omega arith; x_bound = rw c.low.ensures (mod-lt (a.v / 2 ^ (a.width - n)) (pow_pos n)) }
-
-pub put_aligned-requires : goal.put_aligned-requires
-put_aligned-requires c = let z = c.chunk-n.ensures.ends (omega arith) in
-    omega arith
 
 pub returns-then-left-gt0 : goal.returns-then-left-gt0
 returns-then-left-gt0 c = let low = c.low in

@@ -2,14 +2,14 @@
 use Rattle.bitio.specs.PutsLaws.{bytes_long, bytes_over, bytes_in_lem, bytes-not}
 use Rattle.bitio.proofs.write_bytes.Goals as goal
 
-pub returns-then-s-gt16777215 : goal.returns-then-s-gt16777215
-returns-then-s-gt16777215 c = search bytes_long
+pub returns-then-s : goal.returns-then-s
+returns-then-s c = search bytes_long
 
-pub returns-then-end-gt134217720 : goal.returns-then-end-gt134217720
-returns-then-end-gt134217720 c = search bytes_over
+pub returns-then-end-gt-MOST : goal.returns-then-end-gt-MOST
+returns-then-end-gt-MOST c = search bytes_over
 
 pub returns-then-end-out : goal.returns-then-end-out
 returns-then-end-out c = search bytes_in_lem
 
-pub returns : goal.returns
-returns c = search bytes-not
+pub returns-else-end-out : goal.returns-else-end-out
+returns-else-end-out c = search bytes-not

@@ -1,5 +1,8 @@
-use Rattle.field.proofs.TextCases.{text_is}
+use Rattle.field.proofs.TextCases.{text-part, text_none}
 use Rattle.field.proofs.field_text.Goals as goal
 
-pub returns : goal.returns
-returns c = search text_is
+pub returns-in-Some : goal.returns-in-Some
+returns-in-Some c = text-part _ _ _ _ _ c.in-Some.ensures.0
+
+pub returns-in-None : goal.returns-in-None
+returns-in-None c = text_none _ _ _ _ c.in-None.ensures.0

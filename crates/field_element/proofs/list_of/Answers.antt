@@ -1,25 +1,10 @@
-use Rattle.field_element.proofs.ReaderCases.{list-text, list_bytes, list-table, list-flat, list-leads, list-direct}
-use Rattle.message_object.proofs.OpenCases.{list-counted-of}
-use borrow.Author.Rules.{rules}
+use mathlib.Core.Path.{refl, ap, ◌∙◌}
+use Rattle.coding.specs.declared.Found.TheVariants as Fd
+use Rattle.field_element.proofs.ElementCases.{found-list, found-none}
 use Rattle.field_element.proofs.list_of.Goals as goal
 
-pub element-requires : goal.element-requires
-element-requires c = search (list-counted-of, rules)
+pub returns-in-Some : goal.returns-in-Some
+returns-in-Some c = (search found-list, (refl, refl, refl))
 
-pub returns-then-leads : goal.returns-then-leads
-returns-then-leads c = search list-leads
-
-pub returns-in-Text : goal.returns-in-Text
-returns-in-Text c = search list-text
-
-pub returns-in-Bytes : goal.returns-in-Bytes
-returns-in-Bytes c = search list_bytes
-
-pub returns-else-leads : goal.returns-else-leads
-returns-else-leads c = search list-flat
-
-pub returns-in-Table : goal.returns-in-Table
-returns-in-Table c = search list-table
-
-pub returns-in-DirectList : goal.returns-in-DirectList
-returns-in-DirectList c = search list-direct
+pub returns-in-None : goal.returns-in-None
+returns-in-None c = (ap Fd.Refused c.refusal.ensures ∙ search found-none, tt)

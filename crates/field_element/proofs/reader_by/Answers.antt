@@ -1,7 +1,9 @@
-use Rattle.field_element.proofs.GivesCases.{reader_reads}
-use Rattle.field_element.proofs.ReaderCases.{reader-found}
+use mathlib.Core.Path.{ap, ◌∙◌}
+use Rattle.coding.specs.Field as Field
+use Rattle.schema.specs.Parsed.{parsed}
 use Rattle.field_element.proofs.reader_by.Goals as goal
 
 pub returns : goal.returns
-returns c = let e = reader-found _ _ _ _ _ c.found_by-f.ensures.0 _ c.reader_of.ensures.0 in
-    (e, c.reader_of.ensures.1, reader_reads _ _ _ _ _ e)
+unfolding Field.reader_start
+returns c =
+    record { found = c.reader_of.ensures.0 ∙ ap (Field.reader_of (parsed c.args.indexed.now.schema)) c.found_by-found.ensures.0; of_message = c.reader_of.ensures.1 }

@@ -1,12 +1,11 @@
-use Rattle.positions.specs.Lent.{lent_accepted, lent_rows}
-use Rattle.field_element.proofs.StepCases.{gives-lent, next-lent, answer-unlawful, next-unlawful}
+use mathlib.Core.Path.{ap, ◌∙◌}
+use Prim.Native.Nat.{ℕ}
+use Rattle.coding.specs.Field as Field
+use Rattle.field_element.proofs.StartCases.{starts-gives, starts-count}
 use Rattle.field_element.proofs.step.Goals as goal
 
-pub step_by-requires : goal.step_by-requires
-step_by-requires c = (lent_accepted _ _ _ _ _ c.judge_schema.ensures c.if-judge_schema.true, lent_rows _ _ _ _ _ c.judge_schema.ensures c.if-judge_schema.true)
-
-pub returns-then-judge_schema : goal.returns-then-judge_schema
-returns-then-judge_schema c = (search gives-lent, search next-lent)
-
 pub returns : goal.returns
-returns c = (search answer-unlawful, search next-unlawful)
+returns c = let s = c.reader_start-list.ensures in (
+  c.step_answer.ensures ∙ starts-gives _ _ _ _ _ s c.args.j,
+  c.reader_next.ensures ∙ ap (λ (n : ℕ). Field.reader_next n c.args.j) (c.list_count.ensures ∙ starts-count _ _ _ _ _ s),
+)

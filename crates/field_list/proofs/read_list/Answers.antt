@@ -1,13 +1,8 @@
-use Rattle.positions.specs.Lent.{lent_accepted, lent_rows}
-use Rattle.field_element.proofs.StepCases.{count-lent, count-unlawful}
-use Rattle.field_list.proofs.ListCases.{over-lent, over-unlawful}
+use mathlib.Core.Path.{◌∙◌}
+use Rattle.field_element.proofs.StartCases.{starts-count}
+use Rattle.field_list.proofs.ListCases.{over-starts}
 use Rattle.field_list.proofs.read_list.Goals as goal
 
-pub list_by-requires : goal.list_by-requires
-list_by-requires c = (lent_accepted _ _ _ _ _ c.judge_schema.ensures c.if-judge_schema.true, lent_rows _ _ _ _ _ c.judge_schema.ensures c.if-judge_schema.true)
-
-pub returns-then-judge_schema : goal.returns-then-judge_schema
-returns-then-judge_schema c = record { value = search count-lent; out_after = search over-lent }
-
 pub returns : goal.returns
-returns c = record { value = search count-unlawful; out_after = search over-unlawful }
+returns c = let s = c.reader_start-list.ensures in
+    record { value = c.list_count.ensures ∙ starts-count _ _ _ _ _ s; out_after = over-starts _ _ _ _ _ s _ _ _ c.put_steps.ensures }

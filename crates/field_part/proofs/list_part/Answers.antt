@@ -3,9 +3,6 @@ use Rattle.field_part.proofs.ElementSound.{element_sound, elements_there, elemen
 use borrow.Author.Rules.{rules}
 use Rattle.field_part.proofs.list_part.Goals as goal
 
-pub returns-then-c-j : goal.returns-then-c-j
-returns-then-c-j c = search list_none
-
 pub element_step-step-requires : goal.element_step-step-requires
 element_step-step-requires c = search (element_sound, elements_there, rules)
 
@@ -14,6 +11,3 @@ overflow_cast-number c = record { fits = search element-number }
 
 pub follow-requires : goal.follow-requires
 follow-requires c = search (element_step-within, rules)
-
-pub returns : goal.returns
-returns c = search list_there

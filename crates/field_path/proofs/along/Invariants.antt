@@ -1,13 +1,8 @@
-use Prim.Native.Nat.{◌-◌, ◌≤◌}
 use mathlib.Core.Path.{◌≡◌}
-use lib.ListN.{length, drop}
-use Rattle.coding.specs.Packed as P
-use Rattle.coding.specs.Field as Field
-use Rattle.field_arrival.specs.Within.{FoundWithin}
+use lib.ListN.{drop}
+use Rattle.field_arrival.specs.Parts.{along_by}
+use Rattle.field_arrival.specs.Within.{FoundIn}
 use Rattle.field_path.proofs.along.Given as goal
 
-abbrev pub invariant-loop-i : goal.invariant-loop-i
-invariant-loop-i l = (l.i ≤ length l.path) × (Field.along l.o (P.parse l.b) l.m l.initial.f l.path ≡ Field.along l.o (P.parse l.b) l.m l.f (drop l.i l.path)) × FoundWithin l.o (P.parse l.b) l.m l.f
-
-abbrev pub decreases-loop-i : goal.decreases-loop-i
-decreases-loop-i l = length l.path - l.i
+abbrev pub invariant-loop-number : goal.invariant-loop-number
+invariant-loop-number l = (along_by l.indexed.reading l.fn.from l.path ≡ along_by l.indexed.reading l.found (drop l.number-index l.path)) × FoundIn l.indexed.reading l.found

@@ -1,10 +1,6 @@
-use Rattle.field_path.proofs.PathCases.{root-found}
 use Rattle.field_part.proofs.FoundsWithin.{arrival-within}
 use borrow.Author.Rules.{rules}
 use Rattle.field_path.proofs.from_root.Goals as goal
 
 pub along-requires : goal.along-requires
-along-requires c = (search rules, search rules, search rules, search rules, search arrival-within)
-
-pub returns : goal.returns
-returns c = (search root-found, c.along.ensures.1)
+along-requires c = search arrival-within

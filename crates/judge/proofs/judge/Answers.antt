@@ -1,12 +1,8 @@
-use Rattle.positions.specs.Lent.{lent_accepted}
 use Rattle.judge.proofs.VerdictCases.{verdict-lent, verdict-unlawful}
 use Rattle.judge.proofs.judge.Goals as goal
 
-pub judged-requires : goal.judged-requires
-judged-requires c = lent_accepted _ _ _ _ _ c.judge_schema.ensures c.if-judge_schema.true
+pub returns-in-Some : goal.returns-in-Some
+returns-in-Some c = search verdict-lent
 
-pub returns-then-judge_schema : goal.returns-then-judge_schema
-returns-then-judge_schema c = search verdict-lent
-
-pub returns : goal.returns
-returns c = search verdict-unlawful
+pub returns-in-None : goal.returns-in-None
+returns-in-None c = search verdict-unlawful

@@ -2,6 +2,12 @@ use Rattle.judge.proofs.VerdictCases.{size_start, size-magic, size-largest, verd
 use borrow.Author.Rules.{rules}
 use Rattle.judge.proofs.judged.Goals as goal
 
+pub invariant_of-reading-clause-within : goal.invariant_of-reading-clause-within
+invariant_of-reading-clause-within c = search size-largest
+
+pub invariant_of-reading-clause-bytes : goal.invariant_of-reading-clause-bytes
+invariant_of-reading-clause-bytes c = λ i. (c.shared_slice_known-1.given i).fits
+
 pub start_ok-requires : goal.start_ok-requires
 start_ok-requires c = search size-magic
 

@@ -1,5 +1,4 @@
 use Rattle.judge_direct.proofs.QuietCases.{struct-counted, harmless_bool, harmless_integer, harmless_float, harmless-enum, harmless-struct}
-use Rattle.laws.specs.Lists.{never}
 use borrow.Author.Rules.{rules}
 use Rattle.judge_direct.proofs.is_harmless.Goals as goal
 
@@ -20,9 +19,3 @@ returns-in-Enumerated c = λ e. search harmless-enum
 
 pub returns-in-Struct : goal.returns-in-Struct
 returns-in-Struct c = λ e. search harmless-struct
-
-pub returns-in-OfObject : goal.returns-in-OfObject
-returns-in-OfObject c = λ e. never e
-
-pub returns-in-OfUnion : goal.returns-in-OfUnion
-returns-in-OfUnion c = λ e. never e

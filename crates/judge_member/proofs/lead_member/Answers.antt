@@ -14,8 +14,8 @@ lead_number-requires c = record { h_value = (search rules, c.is_plain.ensures c.
 pub returns-then-is_plain : goal.returns-then-is_plain
 returns-then-is_plain c = search number_led
 
-pub member_lead-requires : goal.member_lead-requires
-member_lead-requires c = record { accepted = (c.requires.accepted.0, c.requires.accepted.1, member_sound-of _ _ c.requires.accepted.0 _ _ _ c.member-r.ensures c.requires.accepted.3, c.requires.length_in_bounds.0, c.requires.length_in_bounds.1); byte_le_end = (c.requires.length_in_bounds.2.byte, c.requires.length_in_bounds.2.bit, omega (arith, c.requires.length_in_bounds.2.end, c.requires.accepted.4)) }
+pub member_step-requires : goal.member_step-requires
+member_step-requires c = record { sound = (member_sound-of _ _ c.args.reading.now.schema.accepted _ _ _ c.member-r.ensures c.requires.in_bounds.1, c.requires.length_in_bounds.0); byte_le_end = (c.requires.length_in_bounds.1.byte, c.requires.length_in_bounds.1.bit, omega (arith, c.requires.length_in_bounds.1.end, c.requires.in_bounds.2)) }
 
 pub returns : goal.returns
-returns c = search (led_is, c.member-r.ensures, c.requires.length_in_bounds.2, c.member_lead.ensures.0, c.member_lead.ensures.1)
+returns c = search (led_is, c.member-r.ensures, c.requires.length_in_bounds.1, c.member_step.ensures.0, c.member_step.ensures.1)

@@ -13,7 +13,7 @@ pub record_place-at-requires : goal.record_place-at-requires
 record_place-at-requires c = (omega arith, c.requires.0.small, omega (arith, c.requires.0.few))
 
 pub row_member-g-requires : goal.row_member-g-requires
-row_member-g-requires c = record { width = (c.requires.1, omega (arith, c.requires.0.inside, c.record_place-at.ensures.1), row_here _ _ c.requires.0 _ c.loop-j-test.true _ c.record_place-at.ensures.1); within_size = (c.requires.2, c.requires.3, omega (arith, c.if-x-end.false)) }
+row_member-g-requires c = record { width = (omega (arith, c.requires.0.inside, c.record_place-at.ensures.1), row_here _ _ c.requires.0 _ c.loop-j-test.true _ c.record_place-at.ensures.1); in_bounds = (c.requires.1, omega (arith, c.if-x-end.false)) }
 
 pub returns-then-g-ne0 : goal.returns-then-g-ne0
 returns-then-g-ne0 c = row_stopped _ _ _ _ _ _ _ c.requires.0 _ _ _ c.loop-j.invariant.2 c.loop-j-test.true _ c.record_place-at.ensures.0 _ c.row_member-g.ensures c.if-g-ne0.true
@@ -22,7 +22,7 @@ pub byte_in-requires : goal.byte_in-requires
 byte_in-requires c = omega (arith, c.requires.0.inside, c.record_place-at.ensures.1)
 
 pub row_width-end-requires : goal.row_width-end-requires
-row_width-end-requires c = (row_read _ _ c.requires.0 _ c.loop-j-test.true _ c.record_place-at.ensures.1 _ c.byte_in.ensures _ c.index.ensures.0, c.requires.1)
+row_width-end-requires c = (row_read _ _ c.requires.0 _ c.loop-j-test.true _ c.record_place-at.ensures.1 _ c.byte_in.ensures _ c.index.ensures.0, c.args.reading.now.schema.coded)
 
 pub overflow_add-end : goal.overflow_add-end
 overflow_add-end c = omega (arith, c.row_width-end.ensures.1, c.requires.0.few, c.loop-j.invariant.1)

@@ -1,3 +1,4 @@
+use Rattle.schema.specs.Parsed.{parsed, bytes_of}
 use Prim.Native.Nat.{◌-◌, ◌*◌, ◌≤◌}
 use mathlib.Core.Path.{◌≡◌}
 use lib.ListN.{drop}
@@ -10,8 +11,5 @@ use Rattle.judge_rows.proofs.row_members.Given as goal
 
 abbrev pub invariant-loop-j : goal.invariant-loop-j
 invariant-loop-j l = (l.j ≤ l.k.count) × (l.end ≤ 256 * l.j)
-    × (As.members_by l.o l.b l.m l.depth l.k.table l.x (W.spending l.visits l.content)
-    ≡ W.members (As.visit_by l.o l.b l.m l.depth) l.o (P.parse l.b) l.m l.x.holder l.x.start l.x.length (Rs.no_bool l.end) l.j (drop l.j (Sc.table_of (P.parse l.b) l.k.table).members) (W.spending l.v l.w))
-
-abbrev pub decreases-loop-j : goal.decreases-loop-j
-decreases-loop-j l = l.k.count - l.j
+    × (As.members_by l.reading.schema.width (bytes_of l.reading.schema) l.reading.message.now l.depth l.k.table l.fn.x (W.spending l.visits l.content)
+    ≡ W.members (As.visit_by l.reading.schema.width (bytes_of l.reading.schema) l.reading.message.now l.depth) l.reading.schema.width (parsed l.reading.schema) l.reading.message.now l.fn.x.holder l.fn.x.start l.fn.x.length (Rs.no_bool l.end) l.j (drop l.j (Sc.table_of (parsed l.reading.schema) l.k.table).members) (W.spending l.v l.w))

@@ -18,8 +18,8 @@ rest-requires c = search not_more
 pub row_members-requires : goal.row_members-requires
 row_members-requires c = search (table-found, rules)
 
-pub returns-in-Refused : goal.returns-in-Refused
-returns-in-Refused c = search offset_refused
+pub returns-in-Err : goal.returns-in-Err
+returns-in-Err c = search offset_refused
 
 pub returns-else-exceeds : goal.returns-else-exceeds
 returns-else-exceeds c = search table_paid

@@ -2,8 +2,8 @@
 use Rattle.judge_text.proofs.TextCases.{text_bad, text_good}
 use Rattle.judge_text.proofs.text_tested.Goals as goal
 
-pub returns-then-e-ne0 : goal.returns-then-e-ne0
-returns-then-e-ne0 c = search text_bad
+pub returns-in-Ok : goal.returns-in-Ok
+returns-in-Ok c = search text_good
 
-pub returns : goal.returns
-returns c = search text_good
+pub returns-in-Err : goal.returns-in-Err
+returns-in-Err c = search text_bad

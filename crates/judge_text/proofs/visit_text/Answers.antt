@@ -14,8 +14,8 @@ rest-requires c = search not_more
 pub text_tested-requires : goal.text_tested-requires
 text_tested-requires c = search text-found
 
-pub returns-in-Refused : goal.returns-in-Refused
-returns-in-Refused c = search offset_refused
+pub returns-in-Err : goal.returns-in-Err
+returns-in-Err c = search offset_refused
 
 pub returns-else-exceeds : goal.returns-else-exceeds
 returns-else-exceeds c = search text_paid

@@ -54,7 +54,7 @@ pub arrive-returns-then-is_text : goal.arrive-returns-then-is_text
 arrive-returns-then-is_text t c = search arrive-text
 
 pub arrive-visit-requires : goal.arrive-visit-requires
-arrive-visit-requires t c = (omega arith, (c.requires.0, c.requires.1, c.requires.2, c.requires.3, search offset_small))
+arrive-visit-requires t c = (omega arith, (c.requires.0, search offset_small))
 
 pub arrive-visit-requires-in-InPlace : goal.arrive-visit-requires-in-InPlace
 arrive-visit-requires-in-InPlace t c = search (inplace-first, inplace-length, rules)
@@ -72,7 +72,7 @@ pub choice-returns-then-case_count-c : goal.choice-returns-then-case_count-c
 choice-returns-then-case_count-c t c = search choice-unknown
 
 pub choice-union-requires : goal.choice-union-requires
-choice-union-requires t c = (omega arith, (c.requires.0, c.requires.1, c.requires.2, search (choice_sound, c.requires.0, c.if-c-eq0.false, c.case_count.ensures.0, c.if-case_count-c.false, c.union_case-ob.ensures), c.offset_in-x.ensures.1))
+choice-union-requires t c = (omega arith, (search (choice_sound, c.args.reading.now.schema.accepted, c.if-c-eq0.false, c.case_count.ensures.0, c.if-case_count-c.false, c.union_case-ob.ensures), c.offset_in-x.ensures.1))
 
 pub choice-returns : goal.choice-returns
 choice-returns t c = search choice-known
@@ -81,16 +81,16 @@ pub choices-loop-j-init : goal.choices-loop-j-init
 choices-loop-j-init t c = (omega arith, omega arith, search elements_start)
 
 pub choices-overflow_cast-part : goal.choices-overflow_cast-part
-choices-overflow_cast-part t c = record { fits = choice-number _ _ _ _ _ c.loop-j-test.true c.requires.4 c.requires.2 }
+choices-overflow_cast-part t c = record { fits = choice-number _ _ _ _ _ c.loop-j-test.true c.requires.1 c.args.reading.now.within }
 
 pub choices-choice-g-requires : goal.choices-choice-g-requires
-choices-choice-g-requires t c = (omega arith, (c.requires.0, c.requires.1, c.requires.2, c.requires.3, search value_there))
+choices-choice-g-requires t c = (omega arith, (c.requires.0, search value_there))
 
 pub choices-returns-then-g-ne0 : goal.choices-returns-then-g-ne0
 choices-returns-then-g-ne0 t c = search choices_stopped
 
 pub choices-overflow_add-at : goal.choices-overflow_add-at
-choices-overflow_add-at t c = record { fits = omega (arith, c.union_size-size.ensures, value_fits _ _ _ _ _ _ c.loop-j.invariant.1 c.loop-j-test.true c.requires.4 c.requires.2) }
+choices-overflow_add-at t c = record { fits = omega (arith, c.union_size-size.ensures, value_fits _ _ _ _ _ _ c.loop-j.invariant.1 c.loop-j-test.true c.requires.1 c.args.reading.now.within) }
 
 pub choices-loop-j-preserved : goal.choices-loop-j-preserved
 choices-loop-j-preserved t c = (omega arith, omega (arith, c.union_size-size.ensures, value_next _ _ _ _ c.loop-j.invariant.1), search choices_turn)
@@ -102,7 +102,7 @@ pub directs-only_count-requires : goal.directs-only_count-requires
 directs-only_count-requires t c = search (direct-table, rules)
 
 pub directs-count-requires : goal.directs-count-requires
-directs-count-requires t c = (search rules, search directs_there, c.only_count.ensures c.if-only_count.true)
+directs-count-requires t c = (search directs_there, c.only_count.ensures c.if-only_count.true)
 
 pub directs-returns-then-only_count : goal.directs-returns-then-only_count
 directs-returns-then-only_count t c = search directs_sized
@@ -162,13 +162,13 @@ pub list-returns-then-is_flat_kind : goal.list-returns-then-is_flat_kind
 list-returns-then-is_flat_kind t c = search list-flat
 
 pub list-references-requires : goal.list-references-requires
-list-references-requires t c = (omega arith, (c.requires.accepted.0, c.requires.accepted.1, c.requires.accepted.2, search objects_sound, search objects_there))
+list-references-requires t c = (omega arith, (search objects_sound, search objects_there))
 
 pub list-returns-then-is_object_kind : goal.list-returns-then-is_object_kind
 list-returns-then-is_object_kind t c = search list_objects
 
 pub list-choices-requires : goal.list-choices-requires
-list-choices-requires t c = (omega arith, (c.requires.accepted.0, c.requires.accepted.1, c.requires.accepted.2, search unions-counted, search unions_there))
+list-choices-requires t c = (omega arith, (search unions-counted, search unions_there))
 
 pub list-returns : goal.list-returns
 list-returns t c = search list-unions
@@ -177,7 +177,7 @@ pub refer-returns-then-x-eq0 : goal.refer-returns-then-x-eq0
 refer-returns-then-x-eq0 t c = search refer_none
 
 pub refer-visit-requires : goal.refer-visit-requires
-refer-visit-requires t c = (omega arith, (c.requires.0, c.requires.1, c.requires.2, c.requires.3, c.requires.4))
+refer-visit-requires t c = (omega arith, (c.requires.0, c.requires.1))
 
 pub refer-returns : goal.refer-returns
 refer-returns t c = search refer-object
@@ -189,22 +189,22 @@ pub reference-returns-then-x-end-2 : goal.reference-returns-then-x-end-2
 reference-returns-then-x-end-2 t c = search reference-cut
 
 pub reference-refer_text-requires : goal.reference-refer_text-requires
-reference-refer_text-requires t c = (c.requires.accepted.1, c.offset_in-y.ensures.1)
+reference-refer_text-requires t c = c.offset_in-y.ensures.1
 
 pub reference-returns-then-is_text : goal.reference-returns-then-is_text
 reference-returns-then-is_text t c = search reference-text
 
 pub reference-refer-requires : goal.reference-refer-requires
-reference-refer-requires t c = (omega arith, (c.requires.accepted.0, c.requires.accepted.1, c.requires.accepted.2, same_sound _ _ _ c.object_at-ob.ensures c.requires.object_sound.0, c.offset_in-y.ensures.1))
+reference-refer-requires t c = (omega arith, (same_sound _ _ _ c.object_at-ob.ensures c.requires.object_sound.0, c.offset_in-y.ensures.1))
 
 pub reference-returns : goal.reference-returns
-reference-returns t c = reference_here _ _ _ _ _ _ _ _ _ c.requires.accepted.4 _ c.if-x-end.false c.if-x-end-2.false _ c.offset_in-y.ensures.0 _ c.object_at-ob.ensures c.refer.ensures
+reference-returns t c = reference_here _ _ _ _ _ _ _ _ _ c.requires.in_bounds.1 _ c.if-x-end.false c.if-x-end-2.false _ c.offset_in-y.ensures.0 _ c.object_at-ob.ensures c.refer.ensures
 
 pub references-returns-then-is_text : goal.references-returns-then-is_text
 references-returns-then-is_text t c = search references-texts
 
 pub references-row_references-requires : goal.references-row_references-requires
-references-row_references-requires t c = (c.requires.0, c.requires.1, c.requires.2, c.requires.3, c.requires.4, c.is_row_table.ensures c.if-is_row_table.true)
+references-row_references-requires t c = (c.requires.0, c.requires.1, c.is_row_table.ensures c.if-is_row_table.true)
 
 pub references-returns-then-is_row_table : goal.references-returns-then-is_row_table
 references-returns-then-is_row_table t c = c.row_references.ensures
@@ -216,13 +216,13 @@ pub references-offset_in-requires : goal.references-offset_in-requires
 references-offset_in-requires t c = search (value_there, rules)
 
 pub references-refer-g-requires : goal.references-refer-g-requires
-references-refer-g-requires t c = (omega arith, (c.requires.0, c.requires.1, c.requires.2, c.requires.3, c.offset_in.ensures.1))
+references-refer-g-requires t c = (omega arith, (c.requires.0, c.offset_in.ensures.1))
 
 pub references-returns-then-g-ne0 : goal.references-returns-then-g-ne0
 references-returns-then-g-ne0 t c = search references_stopped
 
 pub references-overflow_add-at : goal.references-overflow_add-at
-references-overflow_add-at t c = record { fits = value_fits _ _ _ _ _ _ c.loop-j.invariant.1 c.loop-j-test.true c.requires.4 c.requires.2 }
+references-overflow_add-at t c = record { fits = value_fits _ _ _ _ _ _ c.loop-j.invariant.1 c.loop-j-test.true c.requires.1 c.args.reading.now.within }
 
 pub references-loop-j-preserved : goal.references-loop-j-preserved
 references-loop-j-preserved t c = (omega arith, search value_next, search references_turn)
@@ -243,25 +243,25 @@ pub table-record_place-at-requires : goal.table-record_place-at-requires
 table-record_place-at-requires t c = (omega arith, c.table_place-first.ensures.small, omega (arith, c.member_count-count.ensures.1))
 
 pub table-refers-requires : goal.table-refers-requires
-table-refers-requires t c = omega (arith, record_whole _ _ _ c.requires.3 _ c.member_count-count.ensures.0 c.loop-j-test.true _ c.table_place-first.ensures _ c.record_place-at.ensures.1)
+table-refers-requires t c = omega (arith, record_whole _ _ _ c.requires.0 _ c.member_count-count.ensures.0 c.loop-j-test.true _ c.table_place-first.ensures _ c.record_place-at.ensures.1)
 
 pub table-overflow_cast-k : goal.table-overflow_cast-k
 table-overflow_cast-k t c = record { fits = omega (arith, c.loop-j-test.true, c.member_count-count.ensures.1) }
 
 pub table-reference-g-requires : goal.table-reference-g-requires
-table-reference-g-requires t c = (omega arith, ((c.requires.0, c.requires.1, c.requires.2, record_whole _ _ _ c.requires.3 _ c.member_count-count.ensures.0 c.loop-j-test.true _ c.table_place-first.ensures _ c.record_place-at.ensures.1, c.refers.ensures c.if-refers.true), (reference_sound _ _ _ c.requires.3 _ c.member_count-count.ensures.0 c.loop-j-test.true _ c.table_place-first.ensures _ _ c.requires.0 c.record_place-at.ensures.0 (c.refers.ensures c.if-refers.true), c.requires.4, omega (arith, c.loop-j.invariant.1.end, c.member_count-count.ensures.1))))
+table-reference-g-requires t c = (omega arith, ((record_whole _ _ _ c.requires.0 _ c.member_count-count.ensures.0 c.loop-j-test.true _ c.table_place-first.ensures _ c.record_place-at.ensures.1, c.refers.ensures c.if-refers.true), (reference_sound _ _ _ c.requires.0 _ c.member_count-count.ensures.0 c.loop-j-test.true _ c.table_place-first.ensures _ _ c.args.reading.now.schema.accepted c.record_place-at.ensures.0 (c.refers.ensures c.if-refers.true), c.requires.1, omega (arith, c.loop-j.invariant.1.end, c.member_count-count.ensures.1))))
 
 pub table-returns-then-g-ne0 : goal.table-returns-then-g-ne0
-table-returns-then-g-ne0 t c = reference_stopped _ _ _ _ _ _ _ _ _ _ _ _ c.loop-j.invariant.2 _ c.member_count-count.ensures.0 c.loop-j-test.true c.requires.3 _ c.table_place-first.ensures _ c.record_place-at.ensures.0 _ c.reference-g.ensures c.if-g-ne0.true
+table-returns-then-g-ne0 t c = reference_stopped _ _ _ _ _ _ _ _ _ _ _ _ c.loop-j.invariant.2 _ c.member_count-count.ensures.0 c.loop-j-test.true c.requires.0 _ c.table_place-first.ensures _ c.record_place-at.ensures.0 _ c.reference-g.ensures c.if-g-ne0.true
 
 pub table-after_bytes-c-requires : goal.table-after_bytes-c-requires
-table-after_bytes-c-requires t c = (c.loop-j.invariant.1.byte, c.loop-j.invariant.1.bit, omega (arith, c.loop-j.invariant.1.end, c.member_count-count.ensures.1), omega (arith, c.requires.1.1))
+table-after_bytes-c-requires t c = (c.loop-j.invariant.1.byte, c.loop-j.invariant.1.bit, omega (arith, c.loop-j.invariant.1.end, c.member_count-count.ensures.1), omega (arith, c.args.reading.now.schema.coded.1))
 
 pub table-loop-j-preserved-then-refers : goal.table-loop-j-preserved-then-refers
-table-loop-j-preserved-then-refers t c = (omega arith, reference_laid _ _ _ _ c.requires.1.1 c.loop-j.invariant.1 c.after_bytes-c.ensures.1, reference_turn _ _ _ _ _ _ _ _ _ _ _ _ c.loop-j.invariant.2 _ c.member_count-count.ensures.0 c.loop-j-test.true c.requires.3 _ c.table_place-first.ensures _ c.record_place-at.ensures.0 _ c.reference-g.ensures c.if-g-ne0.false (c.refers.ensures c.if-refers.true) _ c.after_bytes-c.ensures.0)
+table-loop-j-preserved-then-refers t c = (omega arith, reference_laid _ _ _ _ c.args.reading.now.schema.coded.1 c.loop-j.invariant.1 c.after_bytes-c.ensures.1, reference_turn _ _ _ _ _ _ _ _ _ _ _ _ c.loop-j.invariant.2 _ c.member_count-count.ensures.0 c.loop-j-test.true c.requires.0 _ c.table_place-first.ensures _ c.record_place-at.ensures.0 _ c.reference-g.ensures c.if-g-ne0.false (c.refers.ensures c.if-refers.true) _ c.after_bytes-c.ensures.0)
 
 pub table-lead_member-q-requires : goal.table-lead_member-q-requires
-table-lead_member-q-requires t c = record { accepted = (c.requires.0, c.requires.1, c.requires.3, omega (arith, c.member_count-count.ensures.0), omega (arith, c.member_count-count.ensures.1)); length_in_bounds = (omega (arith, c.requires.4), omega (arith, c.requires.2), c.loop-j.invariant.1) }
+table-lead_member-q-requires t c = record { in_bounds = (c.requires.0, omega (arith, c.member_count-count.ensures.0), omega (arith, c.member_count-count.ensures.1)); length_in_bounds = (omega (arith, c.requires.1), c.loop-j.invariant.1) }
 
 pub table-loop-j-preserved-then-leads_nowhere : goal.table-loop-j-preserved-then-leads_nowhere
 table-loop-j-preserved-then-leads_nowhere t c = (omega arith, c.lead_member-q.ensures.laid, members_nowhere _ _ _ _ _ _ _ _ _ _ _ _ c.loop-j.invariant.2 _ c.member_count-count.ensures.0 c.loop-j-test.true _ c.lead_member-q.ensures.step_is (c.leads_nowhere.ensures c.if-leads_nowhere.true) _ c.lead_member-q.ensures.next_is)
@@ -270,7 +270,7 @@ pub table-overflow_cast-part : goal.table-overflow_cast-part
 table-overflow_cast-part t c = record { fits = omega (arith, c.loop-j-test.true, c.member_count-count.ensures.1) }
 
 pub table-follow-g-requires : goal.table-follow-g-requires
-table-follow-g-requires t c = (omega arith, (c.requires.0, c.requires.1, c.requires.2, c.lead_member-q.ensures.small))
+table-follow-g-requires t c = (omega arith, c.lead_member-q.ensures.small)
 
 pub table-returns-then-g-ne0-2 : goal.table-returns-then-g-ne0-2
 table-returns-then-g-ne0-2 t c = members_stopped _ _ _ _ _ _ _ _ _ _ _ _ c.loop-j.invariant.2 _ c.member_count-count.ensures.0 c.loop-j-test.true _ c.lead_member-q.ensures.step_is _ c.follow-g.ensures c.if-g-ne0-2.true
@@ -285,7 +285,7 @@ pub union-returns-then-x-eq0 : goal.union-returns-then-x-eq0
 union-returns-then-x-eq0 t c = search union_none
 
 pub union-visit-requires : goal.union-visit-requires
-union-visit-requires t c = (omega arith, (c.requires.0, c.requires.1, c.requires.2, c.requires.3, search offset_small))
+union-visit-requires t c = (omega arith, (c.requires.0, search offset_small))
 
 pub union-visit-requires-in-InPlace : goal.union-visit-requires-in-InPlace
 union-visit-requires-in-InPlace t c = search (inplace-first, inplace-length, rules)
@@ -303,10 +303,10 @@ pub visit-below-requires : goal.visit-below-requires
 visit-below-requires t c = search charged_deep
 
 pub visit-admit-requires : goal.visit-admit-requires
-visit-admit-requires t c = (omega (arith, below_falls _ _ c.below.ensures (charged_deep _ _ _ _ c.charge-g.ensures c.if-g-ne0.false)), ((c.requires.0, c.requires.1, c.requires.2, c.requires.3), (search held_fits, length_small _ _ _ c.fit_object.ensures.1 c.in-Content.is, search placed_small)))
+visit-admit-requires t c = (omega (arith, below_falls _ _ c.below.ensures (charged_deep _ _ _ _ c.charge-g.ensures c.if-g-ne0.false)), (c.requires.0, (search held_fits, length_small _ _ _ c.fit_object.ensures.1 c.in-Ok.is, search placed_small)))
 
-pub visit-returns-in-Refused : goal.visit-returns-in-Refused
-visit-returns-in-Refused t c = search visit_refused
+pub visit-returns-in-Err : goal.visit-returns-in-Err
+visit-returns-in-Err t c = search visit_refused
 
-pub visit-returns-in-Content : goal.visit-returns-in-Content
-visit-returns-in-Content t c = search visit-content
+pub visit-returns-in-Ok : goal.visit-returns-in-Ok
+visit-returns-in-Ok t c = search visit-content

@@ -1,3 +1,4 @@
+use Rattle.schema.specs.Parsed.{parsed, bytes_of}
 use mathlib.Core.Path.{◌≡◌}
 use lib.ListN.{drop}
 use Rattle.coding.specs.Packed as P
@@ -52,33 +53,21 @@ abbrev pub decreases-visit : goal.decreases-visit
 decreases-visit l = 16 * l.depth + 0
 
 abbrev pub invariant-choices-loop-j : goal.invariant-choices-loop-j
-invariant-choices-loop-j l = (l.j ≤ l.x.length) × (l.at ≡ l.x.start + (2 + l.o) * l.j)
-    × (As.elements_by l.o l.b l.m l.depth (OfUnion l.i) l.x (W.spending l.visits l.content)
-    ≡ W.elements (As.visit_by l.o l.b l.m l.depth) l.o (P.parse l.b) l.m l.x.holder l.x.start (OfUnion l.i) (l.x.length - l.j) l.j (W.spending l.v l.w))
-
-abbrev pub decreases-choices-loop-j : goal.decreases-choices-loop-j
-decreases-choices-loop-j l = l.x.length - l.j
+invariant-choices-loop-j l = (l.j ≤ l.x.length) × (l.at ≡ l.x.start + (2 + l.reading.schema.width) * l.j)
+    × (As.elements_by l.reading.schema.width (bytes_of l.reading.schema) l.reading.message.now l.depth (OfUnion l.i) l.x (W.spending l.visits l.content)
+    ≡ W.elements (As.visit_by l.reading.schema.width (bytes_of l.reading.schema) l.reading.message.now l.depth) l.reading.schema.width (parsed l.reading.schema) l.reading.message.now l.x.holder l.x.start (OfUnion l.i) (l.x.length - l.j) l.j (W.spending l.v l.w))
 
 abbrev pub invariant-elements-loop-j : goal.invariant-elements-loop-j
-invariant-elements-loop-j l = (l.j ≤ l.x.length) × (l.at ≡ l.x.start + l.w * l.j)
-    × (As.directs_by l.o l.b l.m l.depth l.t l.w l.x (W.spending l.visits l.content)
-    ≡ W.directs (As.visit_by l.o l.b l.m l.depth) l.t l.w (l.x.length - l.j) l.at (W.spending l.v l.c))
-
-abbrev pub decreases-elements-loop-j : goal.decreases-elements-loop-j
-decreases-elements-loop-j l = l.x.length - l.j
+invariant-elements-loop-j l = (l.j ≤ l.fn.x.length) × (l.at ≡ l.fn.x.start + l.w * l.j)
+    × (As.directs_by l.reading.schema.width (bytes_of l.reading.schema) l.reading.message.now l.depth l.t l.w l.fn.x (W.spending l.visits l.content)
+    ≡ W.directs (As.visit_by l.reading.schema.width (bytes_of l.reading.schema) l.reading.message.now l.depth) l.t l.w (l.fn.x.length - l.j) l.at (W.spending l.v l.c))
 
 abbrev pub invariant-references-loop-j : goal.invariant-references-loop-j
-invariant-references-loop-j l = (l.j ≤ l.x.length) × (l.at ≡ l.x.start + l.o * l.j)
-    × (As.elements_by l.o l.b l.m l.depth (OfObject l.ob) l.x (W.spending l.visits l.content)
-    ≡ W.elements (As.visit_by l.o l.b l.m l.depth) l.o (P.parse l.b) l.m l.x.holder l.x.start (OfObject l.ob) (l.x.length - l.j) l.j (W.spending l.v l.w))
-
-abbrev pub decreases-references-loop-j : goal.decreases-references-loop-j
-decreases-references-loop-j l = l.x.length - l.j
+invariant-references-loop-j l = (l.j ≤ l.fn.x.length) × (l.at ≡ l.fn.x.start + l.reading.schema.width * l.j)
+    × (As.elements_by l.reading.schema.width (bytes_of l.reading.schema) l.reading.message.now l.depth (OfObject l.ob) l.fn.x (W.spending l.visits l.content)
+    ≡ W.elements (As.visit_by l.reading.schema.width (bytes_of l.reading.schema) l.reading.message.now l.depth) l.reading.schema.width (parsed l.reading.schema) l.reading.message.now l.fn.x.holder l.fn.x.start (OfObject l.ob) (l.fn.x.length - l.j) l.j (W.spending l.v l.w))
 
 abbrev pub invariant-table-loop-j : goal.invariant-table-loop-j
 invariant-table-loop-j l = (l.j ≤ l.count) × Laid (4097 * l.j) l.c
-    × (As.members_by l.o l.b l.m l.depth l.t l.x (W.spending l.visits l.content)
-    ≡ W.members (As.visit_by l.o l.b l.m l.depth) l.o (P.parse l.b) l.m l.x.holder l.x.start l.x.length l.c l.j (drop l.j (Sc.table_of (P.parse l.b) l.t).members) (W.spending l.v l.w))
-
-abbrev pub decreases-table-loop-j : goal.decreases-table-loop-j
-decreases-table-loop-j l = l.count - l.j
+    × (As.members_by l.reading.schema.width (bytes_of l.reading.schema) l.reading.message.now l.depth l.t l.x (W.spending l.visits l.content)
+    ≡ W.members (As.visit_by l.reading.schema.width (bytes_of l.reading.schema) l.reading.message.now l.depth) l.reading.schema.width (parsed l.reading.schema) l.reading.message.now l.x.holder l.x.start l.x.length l.c l.j (drop l.j (Sc.table_of (parsed l.reading.schema) l.t).members) (W.spending l.v l.w))

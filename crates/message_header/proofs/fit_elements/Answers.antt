@@ -1,14 +1,8 @@
-use Rattle.message_header.proofs.ContentCases.{elements-behind, elements-empty, elements_fit, elements_past}
+use Rattle.message_header.proofs.ContentCases.{elements-empty, elements_fit}
 use Rattle.message_header.proofs.fit_elements.Goals as goal
-
-pub returns-then-m-start : goal.returns-then-m-start
-returns-then-m-start c = search elements-behind
+use Rattle.message_header.proofs.fit_elements.Goals.{then-w-eq0-via-then-w-eq0, then-w-eq0-via-else-w-eq0+then-c-m}
 
 pub returns-then-w-eq0 : goal.returns-then-w-eq0
-returns-then-w-eq0 c = search elements-empty
-
-pub returns-then-n-m : goal.returns-then-n-m
-returns-then-n-m c = search elements_fit
-
-pub returns : goal.returns
-returns c = search elements_past
+returns-then-w-eq0 c =
+    elim c.then-w-eq0.branch
+    [ then-w-eq0-via-then-w-eq0 w ↦ search elements-empty | then-w-eq0-via-else-w-eq0+then-c-m w ↦ search elements_fit ]

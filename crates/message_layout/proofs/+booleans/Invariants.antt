@@ -1,4 +1,5 @@
-use Prim.Native.Nat.{◌+◌, ◌-◌, ◌*◌, ◌<◌, ◌≤◌}
+use Rattle.schema.specs.Parsed.{parsed, bytes_of}
+use Prim.Native.Nat.{◌+◌, ◌*◌, ◌<◌, ◌≤◌}
 use mathlib.Core.Path.{◌≡◌}
 use lib.ListN.{length, drop}
 use Rattle.coding.specs.Packed as P
@@ -13,8 +14,5 @@ abbrev pub decreases-struct_ok : goal.decreases-struct_ok
 decreases-struct_ok l = 2 * l.i + 1
 
 abbrev pub invariant-struct_ok-loop-j : goal.invariant-struct_ok-loop-j
-invariant-struct_ok-loop-j l = (l.j ≤ l.n) × (struct_ok (P.parse l.b) l.m l.i l.at ≡ flats_ok (struct_ok (P.parse l.b) l.m) (P.parse l.b) l.m (drop l.j (Sc.struct_of (P.parse l.b) l.s)) l.pos)
-    × (l.pos + total (struct_size (P.parse l.b)) (drop l.j (Sc.struct_of (P.parse l.b) l.s)) ≤ length l.m) × (l.s < P.struct_count l.b) × (l.s ≤ l.i)
-
-abbrev pub decreases-struct_ok-loop-j : goal.decreases-struct_ok-loop-j
-decreases-struct_ok-loop-j l = l.n - l.j
+invariant-struct_ok-loop-j l = (struct_ok (parsed l.reading.schema) l.reading.message.now l.i l.at ≡ flats_ok (struct_ok (parsed l.reading.schema) l.reading.message.now) (parsed l.reading.schema) l.reading.message.now (drop l.j (Sc.struct_of (parsed l.reading.schema) l.s)) l.pos)
+    × (l.pos + total (struct_size (parsed l.reading.schema)) (drop l.j (Sc.struct_of (parsed l.reading.schema) l.s)) ≤ length l.reading.message.now) × (l.s < P.struct_count (bytes_of l.reading.schema)) × (l.s ≤ l.i)

@@ -1,9 +1,7 @@
--- `message_object::open_object` meets its contract: it fits, and then its bytes are tested.
-use Rattle.message_object.proofs.OpenCases.{fit_ends, opened_is}
+-- The end byte of a text that fits is there.
+use Rattle.message_object.proofs.OpenCases.{open_inside}
+use borrow.Author.Rules.{rules}
 use Rattle.message_object.proofs.open_object.Goals as goal
 
-pub bytes_tested-requires : goal.bytes_tested-requires
-bytes_tested-requires c = search fit_ends
-
-pub returns : goal.returns
-returns c = search opened_is
+pub test_bytes-requires : goal.test_bytes-requires
+test_bytes-requires c = search (open_inside, rules)

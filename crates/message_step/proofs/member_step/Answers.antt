@@ -5,10 +5,10 @@ use borrow.Author.Rules.{rules}
 use Rattle.message_step.proofs.member_step.Goals as goal
 
 pub placed_step-found-requires : goal.placed_step-found-requires
-placed_step-found-requires c = search (sits, rules)
+placed_step-found-requires g c = search (sits, rules)
 
 pub struct_tested-step-requires : goal.struct_tested-step-requires
-struct_tested-step-requires c = search (sits, found_step, rules)
+struct_tested-step-requires g c = search (sits, found_step, rules)
 
 pub returns : goal.returns
-returns c = search member-stepped
+returns g c = (search member-stepped, c.struct_tested-step.ensures.1 c.placed_step-found.ensures.1)

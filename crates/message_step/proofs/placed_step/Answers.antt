@@ -5,13 +5,13 @@ use borrow.Author.Rules.{rules}
 use Rattle.message_step.proofs.placed_step.Goals as goal
 
 pub value_step-requires : goal.value_step-requires
-value_step-requires c = record { accepted = (search rules, search rules, search member_kind, search tail_small); k_in_bounds = (search value-inside, search rules, search value_low) }
+value_step-requires g c = record { sound = (search member_kind, search tail_small); k_in_bounds = (search value-inside, search rules, search value_low) }
 
 pub returns-in-Cut : goal.returns-in-Cut
-returns-in-Cut c = search step_cut
+returns-in-Cut g c = (search step_cut, tt)
 
 pub returns-in-Past : goal.returns-in-Past
-returns-in-Past c = search step_past
+returns-in-Past g c = (search step_past, tt)
 
 pub returns-in-Here : goal.returns-in-Here
-returns-in-Here c = search step_here
+returns-in-Here g c = search (step_here, rules)

@@ -1,5 +1,7 @@
-use Rattle.outcome.proofs.AnswerCases.{answer_refuses}
+use Rattle.coding.specs.Walk as W
+use borrow.Author.Rules.{rules}
 use Rattle.outcome.proofs.refuse.Goals as goal
 
 pub returns : goal.returns
-returns c = search answer_refuses
+unfolding W.refuse W.refuse_part W.no_member
+returns c = search rules

@@ -1,11 +1,14 @@
-use Rattle.positions.proofs.AnswerCases.{schema_off, schema-right, schema-width, table_judged}
+use Rattle.positions.proofs.AnswerCases.{schema_off, table_off, table_is, table_held}
 use Rattle.positions.proofs.judge_schema.Goals as goal
 
-pub returns-then-not-judge_schema : goal.returns-then-not-judge_schema
-returns-then-not-judge_schema c = search schema_off
+pub returns-in-None : goal.returns-in-None
+returns-in-None c = search schema_off
 
-pub matches-requires : goal.matches-requires
-matches-requires c = (search schema-right, search schema-width)
+pub returns-then-not-matches : goal.returns-then-not-matches
+returns-then-not-matches c = table_off _ _ _ _ c.judge_schema.ensures _ c.in-Some.is _ c.matches.ensures c.if-not-matches.true
 
-pub returns : goal.returns
-returns c = search table_judged
+pub invariant_of-result : goal.invariant_of-result
+invariant_of-result c = record { right = table_is _ _ _ _ c.judge_schema.ensures _ c.in-Some.is _ c.matches.ensures c.if-not-matches.false }
+
+pub returns-else-not-matches : goal.returns-else-not-matches
+returns-else-not-matches c = table_held _ _ _ _ c.judge_schema.ensures _ c.in-Some.is _ c.matches.ensures c.if-not-matches.false

@@ -7,7 +7,7 @@ pub returns-then-rows-size : goal.returns-then-rows-size
 returns-then-rows-size c = other_length _ _ _ c.size.ensures.0 _ (λ e. omega arith)
 
 pub tables_are-requires : goal.tables_are-requires
-tables_are-requires c = (search rules, search rules, search right-length, search table_short)
+tables_are-requires c = (search right-length, search table_short)
 
 pub returns : goal.returns
 returns c = search rows_same

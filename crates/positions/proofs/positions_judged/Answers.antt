@@ -6,7 +6,7 @@ pub returns-then-out-n : goal.returns-then-out-n
 returns-then-out-n c = record { value = search no_room_answer; out_after = search no_room_out }
 
 pub put_tables-requires : goal.put_tables-requires
-put_tables-requires c = (search rules, search rules, search table-inside, search table_short)
+put_tables-requires c = (search table-inside, search table_short)
 
 pub returns : goal.returns
 returns c = record { value = search made_answer; out_after = search made_out }

@@ -1,3 +1,4 @@
+use Rattle.schema.specs.Parsed.{bytes_of}
 use Prim.Native.Nat.{◌+◌, ◌-◌, ◌*◌, ◌≤◌}
 use mathlib.Core.Path.{◌≡◌}
 use lib.ListN.{length}
@@ -7,7 +8,4 @@ use Rattle.positions.specs.Rows.{table_bytes, rest_bytes}
 use Rattle.positions.proofs.put_table.Given as goal
 
 abbrev pub invariant-loop-j : goal.invariant-loop-j
-invariant-loop-j l = (l.j ≤ l.n) × (l.pos ≡ l.at + 12 * l.j) × (length l.out ≡ length l.initial.out) × (Laid (4097 * l.j) l.c) × (sets l.initial.out l.at (table_bytes l.o l.b l.t) ≡ sets l.out l.pos (rest_bytes l.o l.b l.t l.j l.c))
-
-abbrev pub decreases-loop-j : goal.decreases-loop-j
-decreases-loop-j l = l.n - l.j
+invariant-loop-j l = (l.j ≤ l.n) × (l.pos ≡ l.at + 12 * l.j) × (length l.out ≡ length l.initial.out) × (Laid (4097 * l.j) l.c) × (sets l.initial.out l.at (table_bytes l.schema.width (bytes_of l.schema) l.t) ≡ sets l.out l.pos (rest_bytes l.schema.width (bytes_of l.schema) l.t l.j l.c))

@@ -1,3 +1,4 @@
+use Rattle.schema.specs.Parsed.{bytes_of}
 use Prim.Native.Nat.{◌+◌, ◌-◌, ◌≤◌}
 use mathlib.Core.Path.{◌≡◌}
 use lib.ListN.{length}
@@ -7,7 +8,4 @@ use Rattle.positions.specs.Rows.{tables_bytes}
 use Rattle.positions.proofs.put_tables.Given as goal
 
 abbrev pub invariant-loop-t : goal.invariant-loop-t
-invariant-loop-t l = (l.t ≤ l.n) × (length l.out ≡ length l.initial.out) × (l.at + length (tables_bytes l.o l.b l.t) ≡ length (positions_of l.o l.b)) × (sets l.initial.out 0 (positions_of l.o l.b) ≡ sets l.out l.at (tables_bytes l.o l.b l.t))
-
-abbrev pub decreases-loop-t : goal.decreases-loop-t
-decreases-loop-t l = l.n - l.t
+invariant-loop-t l = (l.t ≤ l.n) × (length l.out ≡ length l.initial.out) × (l.at + length (tables_bytes l.schema.width (bytes_of l.schema) l.t) ≡ length (positions_of l.schema.width (bytes_of l.schema))) × (sets l.initial.out 0 (positions_of l.schema.width (bytes_of l.schema)) ≡ sets l.out l.at (tables_bytes l.schema.width (bytes_of l.schema) l.t))

@@ -9,7 +9,7 @@ pub returns-then-k-eq-KIND_ENUM : goal.returns-then-k-eq-KIND_ENUM
 returns-then-k-eq-KIND_ENUM c = (search width-enum, search rules)
 
 pub stored_size-requires : goal.stored_size-requires
-stored_size-requires c = (search rules, search struct_there)
+stored_size-requires c = search struct_there
 
 pub returns-then-k-eq-KIND_STRUCT : goal.returns-then-k-eq-KIND_STRUCT
 returns-then-k-eq-KIND_STRUCT c = (search width-struct, search rules)

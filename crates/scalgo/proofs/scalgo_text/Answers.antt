@@ -1,16 +1,10 @@
 -- `scalgo::scalgo_text` meets its contract.
-use mathlib.Core.Path.{◌≡◌, refl, ap, ◌∙◌}
-use mathlib.Core.Bool.{Bool, true, false}
-use Prim.Native.Nat.{ℕ}
-use mir.Val.{bool_byte}
-use Rattle.coding.specs.Lists.{pick}
-use Rattle.coding.specs.declared.Span.{Span}
-use Rattle.scalgo.proofs.Codings.{span_by}
+use Rattle.scalgo.proofs.Codings.{some_there, some-start, some-length, none_there, none-start, none-length}
+use borrow.Author.Rules.{rules}
 use Rattle.scalgo.proofs.scalgo_text.Goals as goal
 
-bit : (t : Bool) → bool_byte t ≡ pick {A = ℕ} t 1 0
-bit true = refl
-bit false = refl
+pub returns-in-Some : goal.returns-in-Some
+returns-in-Some c = record { value = search some_there; start_after = search some-start; length_after = search some-length; length_bound = search rules }
 
-pub returns : goal.returns
-returns c = let e = span_by _ _ c.width_of-o.ensures _ _ _ _ _ c.text_span-span.ensures.0 in record { value = bit c.text_span-span.result.there ∙ ap (λ (x : Span). pick {A = ℕ} x.there 1 0) e; start_after = ap (λ (x : Span). x.start) e; length_after = ap (λ (x : Span). x.length) e; length_bound = c.text_span-span.ensures.1 }
+pub returns-in-None : goal.returns-in-None
+returns-in-None c = record { value = search none_there; start_after = search none-start; length_after = search none-length; length_bound = search rules }

@@ -8,7 +8,7 @@ pub returns-then-out-n : goal.returns-then-out-n
 returns-then-out-n c = record { value = search no_room; out_after = search no_room_out }
 
 pub table_place-requires : goal.table_place-requires
-table_place-requires c = (search rules, search some-table)
+table_place-requires c = search some-table
 
 pub copy-requires : goal.copy-requires
 copy-requires c = (omega arith, search start-inside, omega arith, search start_kept)

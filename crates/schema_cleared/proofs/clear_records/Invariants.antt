@@ -7,7 +7,4 @@ use Rattle.schema_cleared.specs.Rest.{rest}
 use Rattle.schema_cleared.proofs.clear_records.Given as goal
 
 abbrev pub invariant-loop-j : goal.invariant-loop-j
-invariant-loop-j l = (l.j ≤ l.n) × (length l.out ≡ length l.initial.out) × (rest l.b l.out (record_place 4 l.at l.j) ≡ rest l.b l.initial.out (l.at + 5))
-
-abbrev pub decreases-loop-j : goal.decreases-loop-j
-decreases-loop-j l = l.n - l.j
+invariant-loop-j l = (l.j ≤ l.n) × (length l.out ≡ length l.initial.out) × (rest l.packed.bytes.now l.out (record_place 4 l.at l.j) ≡ rest l.packed.bytes.now l.initial.out (l.at + 5))

@@ -8,7 +8,4 @@ use Rattle.schema_cleared.specs.Rest.{rest}
 use Rattle.schema_cleared.proofs.clear_tables.Given as goal
 
 abbrev pub invariant-loop-i : goal.invariant-loop-i
-invariant-loop-i l = (l.i ≤ l.n) × (length l.out ≡ length l.initial.out) × (rest l.b l.out (table_place l.b l.i) ≡ rest l.b l.initial.out (tables_start l.b))
-
-abbrev pub decreases-loop-i : goal.decreases-loop-i
-decreases-loop-i l = l.n - l.i
+invariant-loop-i l = (l.i ≤ l.n) × (length l.out ≡ length l.initial.out) × (rest l.packed.bytes.now l.out (table_place l.packed.bytes.now l.i) ≡ rest l.packed.bytes.now l.initial.out (tables_start l.packed.bytes.now))

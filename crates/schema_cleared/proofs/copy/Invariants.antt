@@ -7,6 +7,3 @@ use Rattle.schema_cleared.proofs.copy.Given as goal
 
 abbrev pub invariant-loop-p : goal.invariant-loop-p
 invariant-loop-p l = (l.from ≤ l.p) × (l.p ≤ l.to) × (length l.out ≡ length l.initial.out) × (rest l.b l.out l.p ≡ rest l.b l.initial.out l.from)
-
-abbrev pub decreases-loop-p : goal.decreases-loop-p
-decreases-loop-p l = l.to - l.p

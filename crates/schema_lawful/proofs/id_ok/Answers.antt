@@ -1,15 +1,8 @@
-use native.Mathlib.Omega.{arith}
-use Rattle.schema_lawful.proofs.PartRules.{ids_none, ids_fail, ids_more, ids_done}
+use Rattle.std.proofs.Common.{rules, tests, refl}
+use Rattle.coding.specs.Lawful as L
+use Rattle.schema.specs.Every.{every_from_all}
 use Rattle.schema_lawful.proofs.id_ok.Goals as goal
 
-pub loop-j-init : goal.loop-j-init
-loop-j-init c = (omega arith, search ids_none)
-
-pub returns-then-id-id_at : goal.returns-then-id-id_at
-returns-then-id-id_at c = search ids_fail
-
-pub loop-j-preserved : goal.loop-j-preserved
-loop-j-preserved c = (omega arith, search ids_more)
-
 pub returns : goal.returns
-returns c = search ids_done
+unfolding L.id_lawful L.id_differs
+returns c = every_from_all _ c.all.ensures.ran refl refl (λ x b q k. search (rules, tests))

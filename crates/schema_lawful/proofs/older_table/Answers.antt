@@ -1,15 +1,8 @@
-use native.Mathlib.Omega.{arith}
-use Rattle.schema_lawful.proofs.OlderRules.{older_none, older_fail, older_more, older_done}
+use Rattle.std.proofs.Common.{rules, tests, refl}
+use Rattle.coding.specs.Lawful as L
+use Rattle.schema.specs.Every.{every_from_all}
 use Rattle.schema_lawful.proofs.older_table.Goals as goal
 
-pub loop-j-init : goal.loop-j-init
-loop-j-init c = (omega arith, search older_none)
-
-pub returns-then-not-older_member : goal.returns-then-not-older_member
-returns-then-not-older_member c = search older_fail
-
-pub loop-j-preserved : goal.loop-j-preserved
-loop-j-preserved c = (omega arith, search older_more)
-
 pub returns : goal.returns
-returns c = search older_done
+unfolding L.older_table
+returns c = every_from_all _ c.all.ensures.ran refl (search rules) (λ x b q k. search (rules, tests))

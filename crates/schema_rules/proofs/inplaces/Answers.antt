@@ -1,12 +1,14 @@
-use native.Mathlib.Omega.{arith}
-use Rattle.schema_rules.proofs.BlockRules.{inplaces_none, inplaces_more, inplaces_done}
+use Rattle.std.proofs.Common.{ℕ, rules, tests, ap, ◌∙◌, arith}
+use Rattle.std.proofs.lemmas.Iterator.{YieldsList-from_range}
+use Rattle.std.proofs.lemmas.Iterator.Consumers.{YieldsList-from_filter, count_from_yields_List}
+use Rattle.coding.specs.Packed as P
+use Rattle.coding.specs.Lawful as L
+use Rattle.schema_rules.proofs.Counting.{inplaces_counted}
 use Rattle.schema_rules.proofs.inplaces.Goals as goal
 
-pub loop-j-init : goal.loop-j-init
-loop-j-init c = (omega arith, omega arith, search inplaces_none)
-
-pub loop-j-preserved : goal.loop-j-preserved
-loop-j-preserved c = (omega arith, omega arith, search inplaces_more)
-
 pub returns : goal.returns
-returns c = search inplaces_done
+returns c =
+    let b = c.args.b.now in let at = c.args.at in let n = c.records.result in
+    count_from_yields_List _ _ c.count.ensures.ran
+    (YieldsList-from_filter _ (λ (j : ℕ). P.inplace_at b (P.record_place 4 at j)) (YieldsList-from_range 0 n n c.filter.ensures.source (omega arith)) c.filter.ensures.closure (λ x t q k. search (rules, tests)))
+    ∙ inplaces_counted b at n ∙ ap (L.inplaces b at) c.records.ensures.0

@@ -1,15 +1,12 @@
 use native.Mathlib.Omega.{arith}
-use Rattle.schema_shape.proofs.Storing.{begins, too_low, too_high, goes_on, done}
+use Rattle.schema_shape.proofs.Storing.{begins, refused, goes_on, done}
 use Rattle.schema_shape.proofs.blocks.Goals as goal
 
 pub loop-i-init : goal.loop-i-init
 loop-i-init c = search begins
 
 pub returns-then-c-low : goal.returns-then-c-low
-returns-then-c-low c = (search too_low, omega arith)
-
-pub returns-then-high-c : goal.returns-then-high-c
-returns-then-high-c c = (search too_high, omega arith)
+returns-then-c-low c = (search refused, tt)
 
 pub loop-i-preserved : goal.loop-i-preserved
 loop-i-preserved c = search goes_on

@@ -1,15 +1,13 @@
-use native.Mathlib.Omega.{arith}
-use Rattle.schema_structs.proofs.Representing.{free_none, free_more, free_stop, free_all}
+use Rattle.std.proofs.Common.{ℕ, true, refl, rules}
+use Rattle.coding.specs.Packed as P
+use Rattle.coding.specs.Schema as Sc
+use Rattle.schema.specs.Every.{each_from_all}
+use Rattle.schema.specs.Representatives.{FieldFree}
+use Rattle.schema_structs.proofs.Representing.{free_all}
 use Rattle.schema_structs.proofs.fields_free.Goals as goal
 
-pub loop-j-init : goal.loop-j-init
-loop-j-init c = (omega arith, free_none _ _)
-
-pub returns-then-not-field_free : goal.returns-then-not-field_free
-returns-then-not-field_free c = search free_stop
-
-pub loop-j-preserved : goal.loop-j-preserved
-loop-j-preserved c = (omega arith, search free_more)
-
 pub returns : goal.returns
-returns c = search free_all
+returns c =
+    let S = P.parse c.args.packed.now.bytes.now in
+    free_all S c.args.i c.requires.2 _
+    (each_from_all (λ (j : ℕ). FieldFree S (Sc.field_of S c.args.i j) true) c.all.ensures.ran refl c.field_count.ensures.0 (λ x q k. search rules))

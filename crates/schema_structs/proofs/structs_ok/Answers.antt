@@ -1,7 +1,5 @@
 use borrow.Author.Rules.{rules}
-use Rattle.schema_structs.proofs.StructRules.{sizing_none, sizing_more, sizing_done, small-below, fields_bad, too_large}
-use mathlib.Core.Path.{ap}
-use mathlib.Core.Bool.{not}
+use Rattle.schema_structs.proofs.StructRules.{sizing_none, sizing_more, small-below, fields_bad, too_large}
 use Rattle.schema_structs.proofs.structs_ok.Goals as goal
 
 pub loop-i-init : goal.loop-i-init
@@ -17,7 +15,4 @@ pub returns-then-size-gt-LARGEST_STRUCT : goal.returns-then-size-gt-LARGEST_STRU
 returns-then-size-gt-LARGEST_STRUCT c = search too_large
 
 pub loop-i-preserved : goal.loop-i-preserved
-loop-i-preserved c = sizing_more _ _ _ _ c.loop-i.invariant c.count-n.ensures.0 c.loop-i-test.true _ c.fields_ok.ensures (ap not c.if-not-fields_ok.false) _ c.struct_size-size.ensures.0 c.if-size-gt-LARGEST_STRUCT.false _ c.put.ensures
-
-pub returns : goal.returns
-returns c = search sizing_done
+loop-i-preserved c = search sizing_more

@@ -12,7 +12,7 @@ pub slice_bounds-fill-end-2 : goal.slice_bounds-fill-end-2
 slice_bounds-fill-end-2 c = search taken
 
 pub fill-requires : goal.fill-requires
-fill-requires c = record { accepted = search rules; out_len = search part-size; out_len_bound = search part_few }
+fill-requires c = record { readable = search rules; out_len = search part-size; out_len_bound = search part_few }
 
 pub returns : goal.returns
 returns c = record { value = search whole_answer; out_after = search whole_over }

@@ -1,13 +1,9 @@
-use Prim.Native.Nat.{◌-◌}
-use native.Mathlib.Omega.{arith}
-use Rattle.sheet_lists.proofs.Elements.{floats-count, floats-counted}
+use Rattle.std.proofs.Common.{arith}
+use Rattle.sheet_lists.proofs.Elements.{flag_most, floats-counted, floats-count}
 use Rattle.sheet_lists.proofs.floats_size.Goals as goal
 
-pub loop-left-init : goal.loop-left-init
-loop-left-init c = (omega arith, omega arith, omega arith, omega arith)
+pub loop-i-init : goal.loop-i-init
+loop-i-init g c = (omega arith, floats-counted _ _ _)
 
-pub loop-left-preserved : goal.loop-left-preserved
-loop-left-preserved c = (omega arith, omega arith, omega arith, search (floats-count, c.loop-left.invariant.3, c.loop-left.invariant.1, c.loop-left-test.true, c.index.ensures.0, c.index-from.ensures.0, c.number.ensures, c.float_value-values.ensures.0))
-
-pub returns : goal.returns
-returns c = (search floats-counted, omega arith)
+pub loop-i-preserved : goal.loop-i-preserved
+loop-i-preserved g c = (omega (arith, flag_most _ _ c.from-values.ensures), floats-count _ _ _ c.is_nan.ensures _ _ _ _ _ _ c.loop-i.invariant.1 c.from-w.ensures c.number.ensures c.from-values.ensures)

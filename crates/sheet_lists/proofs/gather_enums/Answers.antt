@@ -1,20 +1,16 @@
-use Prim.Native.Nat.{◌+◌, ◌-◌, ◌*◌, ◌≤◌}
-use native.Mathlib.Omega.{arith}
-use Rattle.sheet_lists.proofs.Enums.{enums_start, enums_small, enums_join, enums_gathered}
+use Rattle.std.proofs.Common.{◌+◌, ◌*◌, ◌≤◌, arith}
+use Rattle.sheet_lists.proofs.Enums.{enums_start, enums_small, enums_join}
 use Rattle.sheet_lists.proofs.gather_enums.Goals as goal
 
-pub loop-j-init : goal.loop-j-init
-loop-j-init c = (omega arith, omega arith, omega arith, search enums_start)
+pub loop-i-init : goal.loop-i-init
+loop-i-init c = (omega arith, omega arith, enums_start _ _ _)
 
-pub loop-j-preserved : goal.loop-j-preserved
-loop-j-preserved c = let l = c.loop-j in
+pub loop-i-preserved : goal.loop-i-preserved
+loop-i-preserved c = let l = c.loop-i in
     let e = c.enum_value.ensures in
-    let few : l.w + (2 + 8 * c.enum_value.result) ≤ 50 = omega (arith, l.invariant.1, c.loop-j-test.true, c.requires.0, e.1) in (
+    let few : l.width + (2 + 8 * c.enum_value.result) ≤ 50 = omega (arith, l.invariant.0, c.loop-i-test.true, c.requires.0, e.1) in
+    let y = c.enum_number.ensures in (
       omega arith,
-      omega arith,
-      enums_small l.j _ _ _ _ _ few l.invariant.2 e.0 c.enum_number.ensures.1,
-      enums_join l.j _ _ _ _ _ few l.invariant.2 e.0 c.enum_number.ensures.1 _ _ _ l.invariant.3 c.byte-x.ensures c.enum_number.ensures.0,
+      enums_small l.i _ _ _ _ _ few l.invariant.1 e.0 y.1,
+      enums_join l.i _ _ _ _ _ few l.invariant.1 e.0 y.1 _ _ _ l.invariant.2 c.byte-x.ensures y.0,
     )
-
-pub returns : goal.returns
-returns c = (search enums_gathered, omega arith)

@@ -1,13 +1,10 @@
-use Prim.Native.Nat.{◌+◌, ◌≤◌}
-use mathlib.Core.Path.{◌≡◌}
-use lib.ListN.{length}
-use Rattle.bitio.specs.Puts.{Room}
+use Rattle.std.proofs.Common.{◌-◌, ◌≤◌}
+use Rattle.bitio.specs.Puts.{Puts}
 use Rattle.sheet_lists.specs.Elements as A
-use Rattle.sheet_values.proofs.Remaining.{Remaining}
 use Rattle.sheet_lists.proofs.put_enums.Given as goal
 
-abbrev pub invariant-loop-left : goal.invariant-loop-left
-invariant-loop-left l = Room l.out l.p × (l.from + l.left ≤ l.at + l.n) × (l.left ≤ l.n) × (length l.out ≡ length l.initial.out) × Remaining l.initial.out l.pos (A.enums_at l.m l.k l.n l.at) l.out l.p (A.enums_at l.m l.k l.left l.from)
+abbrev pub invariant-loop-i : goal.invariant-loop-i
+invariant-loop-i l = (l.i ≤ l.n) × Puts l.initial.out l.pos (A.enums_at l.m l.k l.i l.at) l.out l.p
 
-abbrev pub decreases-loop-left : goal.decreases-loop-left
-decreases-loop-left l = l.left
+abbrev pub decreases-loop-i : goal.decreases-loop-i
+decreases-loop-i l = l.n - l.i

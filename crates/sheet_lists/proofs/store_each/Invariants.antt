@@ -1,13 +1,6 @@
-use Prim.Native.Nat.{◌+◌, ◌*◌, ◌≤◌}
-use mathlib.Core.Path.{◌≡◌}
-use lib.ListN.{length}
-use Rattle.bitio.specs.Puts.{Room}
+use Rattle.bitio.specs.Puts.{Puts}
 use Rattle.sheet_lists.specs.Elements as A
-use Rattle.sheet_values.proofs.Remaining.{Remaining}
 use Rattle.sheet_lists.proofs.store_each.Given as goal
 
-abbrev pub invariant-loop-left : goal.invariant-loop-left
-invariant-loop-left l = Room l.out l.p × (l.from + 8 * l.left ≤ l.at + 8 * l.n) × (l.left ≤ l.n) × (length l.out ≡ length l.initial.out) × Remaining l.initial.out l.pos (A.numbers_at l.m l.w l.n l.at) l.out l.p (A.numbers_at l.m l.w l.left l.from)
-
-abbrev pub decreases-loop-left : goal.decreases-loop-left
-decreases-loop-left l = l.left
+abbrev pub invariant-loop-i : goal.invariant-loop-i
+invariant-loop-i l = Puts l.initial.out l.pos (A.numbers_at l.m l.w l.i l.at) l.out l.p

@@ -1,13 +1,11 @@
--- `sheet_lists::word_of` meets its contract, by how many numbers a word has.
 use Rattle.sheet_lists.proofs.Words.{word-one, word_two, word_four}
-use borrow.Author.Rules.{rules}
 use Rattle.sheet_lists.proofs.word_of.Goals as goal
 
-pub returns-then-s-eq0 : goal.returns-then-s-eq0
-returns-then-s-eq0 c = search word-one
+pub returns-then-this-eq8 : goal.returns-then-this-eq8
+returns-then-this-eq8 g c = search word-one
 
-pub returns-then-s-eq1 : goal.returns-then-s-eq1
-returns-then-s-eq1 c = word_two _ _ _ (λ i. (c.shared_slice_known-1.given i).fits) _ _ (search rules) c.number-then-s-eq1.ensures c.exchanged.ensures
+pub returns-then-this-eq4 : goal.returns-then-this-eq4
+returns-then-this-eq4 g c = word_two c.args.m.now _ _ (λ i. (c.type_inv.m i).fits) _ _ c.if-this-eq4.true c.number-then-this-eq4.ensures c.rotate_left.ensures
 
 pub returns : goal.returns
-returns c = search word_four
+returns g c = search word_four

@@ -1,3 +1,4 @@
+use Rattle.schema.specs.Parsed.{parsed}
 use Prim.Native.Nat.{◌+◌, ◌-◌, ◌*◌, ◌≤◌}
 use mathlib.Core.Path.{◌≡◌}
 use lib.ListN.{length, drop}
@@ -16,9 +17,6 @@ abbrev pub decreases-put_struct : goal.decreases-put_struct
 decreases-put_struct l = 2 * l.i + 1
 
 abbrev pub invariant-put_struct-loop-j : goal.invariant-put_struct-loop-j
-invariant-put_struct-loop-j l = Room l.out l.p × (l.j ≤ l.n) × (length l.out ≡ length l.initial.out)
-    × (l.from + total (struct_size (P.parse l.b)) (drop l.j (Sc.struct_of (P.parse l.b) l.i)) ≤ length l.m)
-    × Remaining l.initial.out l.pos (A.struct_at (P.parse l.b) l.m l.i l.at) l.out l.p (A.fields_at (P.parse l.b) l.m (drop l.j (Sc.struct_of (P.parse l.b) l.i)) l.from)
-
-abbrev pub decreases-put_struct-loop-j : goal.decreases-put_struct-loop-j
-decreases-put_struct-loop-j l = l.n - l.j
+invariant-put_struct-loop-j l = Room l.out l.p
+    × (l.from + total (struct_size (parsed l.reading.schema)) (drop l.j (Sc.struct_of (parsed l.reading.schema) l.i)) ≤ length l.reading.message.now)
+    × Remaining l.initial.out l.pos (A.struct_at (parsed l.reading.schema) l.reading.message.now l.i l.at) l.out l.p (A.fields_at (parsed l.reading.schema) l.reading.message.now (drop l.j (Sc.struct_of (parsed l.reading.schema) l.i)) l.from)

@@ -1,3 +1,4 @@
+use Rattle.schema.specs.Parsed.{parsed}
 use Prim.Native.Nat.{◌+◌, ◌-◌, ◌*◌, ◌≤◌}
 use mathlib.Core.Path.{◌≡◌}
 use lib.ListN.{length, drop}
@@ -21,9 +22,6 @@ decreases-put_content l = 8 * l.d + 6
 abbrev pub decreases-put_directs : goal.decreases-put_directs
 decreases-put_directs l = 8 * l.d + 5
 
-abbrev pub decreases-put_element : goal.decreases-put_element
-decreases-put_element l = 8 * l.d + 2
-
 abbrev pub decreases-put_lead : goal.decreases-put_lead
 decreases-put_lead l = 8 * l.d + 3
 
@@ -33,8 +31,8 @@ decreases-put_list l = 8 * l.d + 5
 abbrev pub decreases-put_object : goal.decreases-put_object
 decreases-put_object l = 8 * l.d + 1
 
-abbrev pub decreases-put_reference : goal.decreases-put_reference
-decreases-put_reference l = 8 * l.d + 2
+abbrev pub decreases-put_present : goal.decreases-put_present
+decreases-put_present l = 8 * l.d + 2
 
 abbrev pub decreases-put_references : goal.decreases-put_references
 decreases-put_references l = 8 * l.d + 4
@@ -46,34 +44,22 @@ abbrev pub decreases-put_union : goal.decreases-put_union
 decreases-put_union l = 8 * l.d + 2
 
 abbrev pub invariant-put_choices-loop-j : goal.invariant-put_choices-loop-j
-invariant-put_choices-loop-j l = Room l.out l.p × (l.j ≤ l.n) × (length l.out ≡ length l.initial.out) × (l.at ≡ l.initial.at + (2 + l.o) * l.j)
-    × D.ElementsReadable l.o (D.ObjectReadable l.o l.d (P.parse l.b) l.m) (P.parse l.b) l.m (OfUnion l.u) l.initial.at (l.n - l.j) l.j
-    × Remaining l.initial.out l.pos (A.elements_at l.o l.d (P.parse l.b) l.m (OfUnion l.u) l.initial.at l.n 0) l.out l.p (A.elements_at l.o l.d (P.parse l.b) l.m (OfUnion l.u) l.initial.at (l.n - l.j) l.j)
-
-abbrev pub decreases-put_choices-loop-j : goal.decreases-put_choices-loop-j
-decreases-put_choices-loop-j l = l.n - l.j
+invariant-put_choices-loop-j l = Room l.out l.p
+    × D.ElementsReadable l.reading.schema.width (D.ObjectReadable l.reading.schema.width l.d (parsed l.reading.schema) l.reading.message.now) (parsed l.reading.schema) l.reading.message.now (OfUnion l.u) l.part.start (l.part.length - l.j) l.j
+    × Remaining l.initial.out l.pos (A.elements_at l.reading.schema.width l.d (parsed l.reading.schema) l.reading.message.now (OfUnion l.u) l.part.start l.part.length 0) l.out l.p (A.elements_at l.reading.schema.width l.d (parsed l.reading.schema) l.reading.message.now (OfUnion l.u) l.part.start (l.part.length - l.j) l.j)
 
 abbrev pub invariant-put_directs-loop-j : goal.invariant-put_directs-loop-j
-invariant-put_directs-loop-j l = Room l.out l.p × (l.j ≤ l.n) × (length l.out ≡ length l.initial.out) × (l.at ≡ l.initial.at + l.w * l.j)
-    × D.DirectsReadable (D.ObjectReadable l.o l.d (P.parse l.b) l.m) l.t l.w (l.n - l.j) l.at
-    × Remaining l.initial.out l.initial.p (A.directs_at l.o l.d (P.parse l.b) l.m l.t l.w l.n l.initial.at) l.out l.p (A.directs_at l.o l.d (P.parse l.b) l.m l.t l.w (l.n - l.j) l.at)
-
-abbrev pub decreases-put_directs-loop-j : goal.decreases-put_directs-loop-j
-decreases-put_directs-loop-j l = l.n - l.j
+invariant-put_directs-loop-j l = Room l.out l.p
+    × D.DirectsReadable (D.ObjectReadable l.reading.schema.width l.d (parsed l.reading.schema) l.reading.message.now) l.t l.w (l.part.length - l.j) (l.part.start + l.w * l.j)
+    × Remaining l.initial.out l.initial.p (A.directs_at l.reading.schema.width l.d (parsed l.reading.schema) l.reading.message.now l.t l.w l.part.length l.part.start) l.out l.p (A.directs_at l.reading.schema.width l.d (parsed l.reading.schema) l.reading.message.now l.t l.w (l.part.length - l.j) (l.part.start + l.w * l.j))
 
 abbrev pub invariant-put_references-loop-j : goal.invariant-put_references-loop-j
-invariant-put_references-loop-j l = Room l.out l.p × (l.j ≤ l.n) × (length l.out ≡ length l.initial.out) × (l.at ≡ l.initial.at + l.o * l.j)
-    × D.ElementsReadable l.o (D.ObjectReadable l.o l.d (P.parse l.b) l.m) (P.parse l.b) l.m (OfObject l.ob) l.initial.at (l.n - l.j) l.j
-    × Remaining l.initial.out l.pos (A.elements_at l.o l.d (P.parse l.b) l.m (OfObject l.ob) l.initial.at l.n 0) l.out l.p (A.elements_at l.o l.d (P.parse l.b) l.m (OfObject l.ob) l.initial.at (l.n - l.j) l.j)
-
-abbrev pub decreases-put_references-loop-j : goal.decreases-put_references-loop-j
-decreases-put_references-loop-j l = l.n - l.j
+invariant-put_references-loop-j l = Room l.out l.p
+    × D.ElementsReadable l.reading.schema.width (D.ObjectReadable l.reading.schema.width l.d (parsed l.reading.schema) l.reading.message.now) (parsed l.reading.schema) l.reading.message.now (OfObject l.ob) l.part.start (l.part.length - l.j) l.j
+    × Remaining l.initial.out l.pos (A.elements_at l.reading.schema.width l.d (parsed l.reading.schema) l.reading.message.now (OfObject l.ob) l.part.start l.part.length 0) l.out l.p (A.elements_at l.reading.schema.width l.d (parsed l.reading.schema) l.reading.message.now (OfObject l.ob) l.part.start (l.part.length - l.j) l.j)
 
 abbrev pub invariant-put_table-loop-j : goal.invariant-put_table-loop-j
-invariant-put_table-loop-j l = Room l.out l.p × (l.j ≤ l.count) × (length l.out ≡ length l.initial.out) × Laid (4097 * l.j) l.c
-    × D.MembersReadable l.o (D.ObjectReadable l.o l.d (P.parse l.b) l.m) (P.parse l.b) l.m l.part.start l.part.length l.c (drop l.j (Sc.table_of (P.parse l.b) l.t).members)
-    × Remaining l.initial.out l.pos (A.members_at l.o l.d (P.parse l.b) l.m l.part.start l.part.length L.begin (Sc.table_of (P.parse l.b) l.t).members) l.out l.p
-    (A.members_at l.o l.d (P.parse l.b) l.m l.part.start l.part.length l.c (drop l.j (Sc.table_of (P.parse l.b) l.t).members))
-
-abbrev pub decreases-put_table-loop-j : goal.decreases-put_table-loop-j
-decreases-put_table-loop-j l = l.count - l.j
+invariant-put_table-loop-j l = Room l.out l.p × Laid (4097 * l.j) l.c
+    × D.MembersReadable l.reading.schema.width (D.ObjectReadable l.reading.schema.width l.d (parsed l.reading.schema) l.reading.message.now) (parsed l.reading.schema) l.reading.message.now l.fn.part.start l.fn.part.length l.c (drop l.j (Sc.table_of (parsed l.reading.schema) l.t).members)
+    × Remaining l.initial.out l.pos (A.members_at l.reading.schema.width l.d (parsed l.reading.schema) l.reading.message.now l.fn.part.start l.fn.part.length L.begin (Sc.table_of (parsed l.reading.schema) l.t).members) l.out l.p
+    (A.members_at l.reading.schema.width l.d (parsed l.reading.schema) l.reading.message.now l.fn.part.start l.fn.part.length l.c (drop l.j (Sc.table_of (parsed l.reading.schema) l.t).members))

@@ -1,11 +1,7 @@
 -- `utf8::is_all_text` meets its contract: the word and the place decide as the start did.
-use Prim.Native.Nat.{◌-◌, ◌≤◌}
-use lib.ListN.{length}
+use Rattle.std.proofs.Common.{◌*◌}
 use Rattle.utf8.specs.Steps.{Onward}
 use Rattle.utf8.proofs.is_all_text.Given as goal
 
-abbrev pub invariant-loop-i : goal.invariant-loop-i
-invariant-loop-i l = (l.i ≤ length l.s) × Onward l.s 0 l.i 0 l.w
-
-abbrev pub decreases-loop-i : goal.decreases-loop-i
-decreases-loop-i l = length l.s - l.i
+abbrev pub invariant-loop-j : goal.invariant-loop-j
+invariant-loop-j l = Onward l.s 0 (64 * l.j) 0 l.w

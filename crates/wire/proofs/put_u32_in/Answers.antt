@@ -1,16 +1,7 @@
-use native.Mathlib.Omega.{arith}
-use lib.ListN.{length-set}
-use Rattle.wire.specs.Stores.{four-stored}
+-- The four bytes in place of those that stood there.
+use Rattle.std.proofs.Common.{arith}
+use Rattle.wire.proofs.Bytes.{four_put}
 use Rattle.wire.proofs.put_u32_in.Goals as goal
 
-pub bounds-out-at-2 : goal.bounds-out-at-2
-bounds-out-at-2 c = simp length-set (omega arith)
-
-pub bounds-out-at-3 : goal.bounds-out-at-3
-bounds-out-at-3 c = simp length-set (omega arith)
-
-pub bounds-out-at-4 : goal.bounds-out-at-4
-bounds-out-at-4 c = simp length-set (omega arith)
-
 pub returns : goal.returns
-returns c = search four-stored
+returns c = four_put _ _ _ _ _ _ c.requires.1 (omega arith) c.to_le_bytes-bytes.ensures c.copy_from_slice.ensures.after

@@ -1,12 +1,16 @@
 -- `wire::width_of` meets its contract, by the number.
-use Rattle.wire.proofs.Bits.{width_48, width_32, width_none}
+use Rattle.std.proofs.Common.{refl}
+use Rattle.coding.specs.Bytes.{width_of, u48, u32}
+use Rattle.wire.proofs.Bits.{width_none}
 use Rattle.wire.proofs.width_of.Goals as goal
 
-pub returns-then-coding-eq48 : goal.returns-then-coding-eq48
-returns-then-coding-eq48 c = search width_48
+pub returns-in-48 : goal.returns-in-48
+unfolding width_of u48
+returns-in-48 c = rw c.in-48.is refl
 
-pub returns-then-coding-eq32 : goal.returns-then-coding-eq32
-returns-then-coding-eq32 c = search width_32
+pub returns-in-32 : goal.returns-in-32
+unfolding width_of u32
+returns-in-32 c = rw c.in-32.is refl
 
-pub returns : goal.returns
-returns c = search width_none
+pub returns-in_default : goal.returns-in_default
+returns-in_default c = search width_none

@@ -1,44 +1,43 @@
 use native.Mathlib.Omega.{arith}
 use borrow.Author.Rules.{rules}
-use Rattle.write_measure.proofs.PartCases.{kind-flat, kind-object, union-counted, case_sound, body-flat, body-object, body-union, choice-cut, choice-zero, choice_above, choice-known, part_cut, part_none, part_there, part-unknown, part_bad, refer_surveyed, refer-blob, object_none, object_there, object_bad}
+use Rattle.write_measure.specs.Survey.{may_lack, survey_part, survey_unknown, survey_object, survey_choice, survey_content}
+use Rattle.write_measure.proofs.MarkCases.{bind_fails, mark_fails, surveyed_absent, surveyed_present, surveyed_unknown, unknown_fails}
+use Rattle.write_measure.proofs.PartCases.{union-counted, case_sound, body_flat, body_object, body_union, choice-zero, choice_above, choice-known, refer_surveyed, refer-blob, object_present, part_absent}
 use Rattle.write_measure.proofs.ExtentCases.{size_short}
-use Rattle.write_measure.proofs.ObjectCases.{list_counted, table_counted, element_sound, member_kind, member-counted, members_start, members_done, elements-cut, elements_start, elements_simple, elements-rows, row-counted, row_deep, row_there, rows_start, object-marked, elements_done, elements_stopped, elements_turn, object_deep, object-text, object_bytes, object_list, object-table, object-direct, direct-counted, direct_there, directs-cut, directs_start, directs_stopped, directs_turn, directs_done}
-use Rattle.write_measure.proofs.ElementCases.{simple_is, not_simple, element_no-struct}
-use Rattle.write_measure.proofs.SimpleCases.{members_few, table-cut, table_ended, table_stopped, table_turn}
+use Rattle.write_measure.proofs.ObjectCases.{list_counted, table_counted, element_sound, member_kind, members_start, members_done, elements_start, elements_simple, elements-rows, row-counted, row_deep, row_fails, row_there, rows_start, object-marked, elements_done, elements_fail, elements_turn, object_deep, object-text, object_bytes, object_list, object-table, object-direct, direct-counted, direct_there, directs_start, directs_fail, directs_turn, directs_done}
+use Rattle.write_measure.proofs.ElementCases.{simple_is, not_simple}
+use Rattle.write_measure.proofs.SimpleCases.{table_fails, table_ended, table_stops, table_turn}
 use Rattle.write_measure.proofs.+walk.Goals as goal
-
-pub body-flat_test-requires : goal.body-flat_test-requires
-body-flat_test-requires t c = search (kind-flat, rules)
-
-pub body-refer-requires : goal.body-refer-requires
-body-refer-requires t c = search (kind-object, rules)
+use Rattle.write_measure.proofs.+walk.Goals.{choice-then-c-eq0-via-then-c-eq0, choice-then-c-eq0-via-else-c-eq0+then-n-c}
 
 pub body-choice-requires : goal.body-choice-requires
 body-choice-requires t c = search (union-counted, rules)
 
 pub body-returns-in-OfFlat : goal.body-returns-in-OfFlat
-body-returns-in-OfFlat t c = search body-flat
+body-returns-in-OfFlat t c = body_flat _ _ _ _ _ _ _ _ _ c.in-OfFlat.is c.flat_test.result c.flat_test.ensures c.map.result c.map.ensures.cases
 
 pub body-returns-in-OfObject : goal.body-returns-in-OfObject
-body-returns-in-OfObject t c = search body-object
+body-returns-in-OfObject t c = search body_object
 
 pub body-returns-in-OfUnion : goal.body-returns-in-OfUnion
-body-returns-in-OfUnion t c = search body-union
+body-returns-in-OfUnion t c = search body_union
 
-pub choice-returns-then-not-x : goal.choice-returns-then-not-x
-choice-returns-then-not-x t c = search choice-cut
+pub choice-returns-in_err-x : goal.choice-returns-in_err-x
+unfolding survey_choice
+choice-returns-in_err-x t c = rw c.from_residual.ensures (search (bind_fails, c.in_err-x.ensures))
 
 pub choice-returns-then-c-eq0 : goal.choice-returns-then-c-eq0
-choice-returns-then-c-eq0 t c = search choice-zero
-
-pub choice-returns-then-n-c : goal.choice-returns-then-n-c
-choice-returns-then-n-c t c = search choice_above
+choice-returns-then-c-eq0 t c =
+    elim c.then-c-eq0.branch [
+      | choice-then-c-eq0-via-then-c-eq0 w ↦ search (choice-zero, c.in_ok-x.ensures)
+      | choice-then-c-eq0-via-else-c-eq0+then-n-c w ↦ search (choice_above, c.in_ok-x.ensures)
+    ]
 
 pub choice-refer-requires : goal.choice-refer-requires
 choice-refer-requires t c = search (case_sound, rules)
 
 pub choice-returns : goal.choice-returns
-choice-returns t c = search choice-known
+choice-returns t c = search (choice-known, c.in_ok-x.ensures)
 
 pub direct-returns-then-d-eq0 : goal.direct-returns-then-d-eq0
 direct-returns-then-d-eq0 t c = search object_deep
@@ -46,65 +45,75 @@ direct-returns-then-d-eq0 t c = search object_deep
 pub direct-returns : goal.direct-returns
 direct-returns t c = search direct_there
 
-pub directs-returns-then-not-y : goal.directs-returns-then-not-y
-directs-returns-then-not-y t c = search directs-cut
+pub directs-returns-in_err-y : goal.directs-returns-in_err-y
+unfolding survey_content
+directs-returns-in_err-y t c = rw c.from_residual.ensures (search (bind_fails, c.in_err-y.ensures))
 
-pub directs-loop-j-init : goal.directs-loop-j-init
-directs-loop-j-init t c = (search rules, search rules, search rules, search rules, search rules, search rules, search rules, search directs_start)
+pub directs-loop-init : goal.directs-loop-init
+directs-loop-init t c = (c.in_ok-y.ensures.inside, search rules, search (directs_start, c.in_ok-y.ensures))
 
-pub directs-returns-then-not-x : goal.directs-returns-then-not-x
-directs-returns-then-not-x t c = search directs_stopped
+pub directs-returns-in_err-x : goal.directs-returns-in_err-x
+directs-returns-in_err-x t c = rw c.from_residual-in_err-x.ensures (search (directs_fail, c.in_err-x.ensures))
 
-pub directs-loop-j-preserved : goal.directs-loop-j-preserved
-directs-loop-j-preserved t c = (search rules, search rules, search rules, search rules, search rules, search rules, search rules, search directs_turn)
+pub directs-loop-preserved : goal.directs-loop-preserved
+directs-loop-preserved t c = (c.in_ok-x.ensures.inside, search rules, search (directs_turn, c.in_ok-x.ensures))
 
 pub directs-returns : goal.directs-returns
 directs-returns t c = search directs_done
 
-pub list-returns-then-not-y : goal.list-returns-then-not-y
-list-returns-then-not-y t c = search elements-cut
+pub list-returns-in_err-y : goal.list-returns-in_err-y
+unfolding survey_content
+list-returns-in_err-y t c = rw c.from_residual.ensures (search (bind_fails, c.in_err-y.ensures))
 
 pub list-elements_size-total-requires : goal.list-elements_size-total-requires
 list-elements_size-total-requires t c = search (element_sound, rules)
 
 pub list-rows-requires : goal.list-rows-requires
-list-rows-requires t c = (search rules, (search rules, search rules, search row-counted, (search rules, search rules), search rules, search size_short))
+list-rows-requires t c =
+    let e = rw c.in-OfObject-Table.is at c.in-OfObject-Table.field-0-is in
+    (search rules, (row-counted _ _ c.args.schema.now.accepted _ _ c.element-k.ensures _ c.in-OfObject-Table.t _ c.in-OfObject-Table.is e c.from.ensures, (search rules, c.in_ok-y.ensures.inside), c.in_ok-y.ensures.small, search (size_short, c.in_ok-y.ensures.small)))
 
-pub list-returns-then-t-lt256 : goal.list-returns-then-t-lt256
-list-returns-then-t-lt256 t c = search elements-rows
+pub list-returns-in-OfObject-Table : goal.list-returns-in-OfObject-Table
+list-returns-in-OfObject-Table t c =
+    let e = rw c.in-OfObject-Table.is at c.in-OfObject-Table.field-0-is in
+    elements-rows _ _ _ _ _ _ _ c.in_ok-y.ensures _ c.element-k.ensures _ c.elements_size-total.ensures.0 _ c.in-OfObject-Table.t _ c.in-OfObject-Table.is e c.from.ensures _ c.rows.ensures
 
 pub list-simple_elements-requires : goal.list-simple_elements-requires
-list-simple_elements-requires t c = search (element_sound, element_no-struct, simple_is, size_short, rules)
+list-simple_elements-requires t c = (search element_sound, search simple_is, (search rules, c.in_ok-y.ensures.inside), c.in_ok-y.ensures.small, search (size_short, c.in_ok-y.ensures.small))
 
 pub list-returns-then-is_simple : goal.list-returns-then-is_simple
-list-returns-then-is_simple t c = search elements_simple
+list-returns-then-is_simple t c = search (elements_simple, c.in_ok-y.ensures)
 
-pub list-loop-j-init : goal.list-loop-j-init
-list-loop-j-init t c = (search rules, search rules, search rules, search rules, search rules, search rules, search not_simple, search elements_start)
+pub list-loop-init : goal.list-loop-init
+list-loop-init t c = (c.in_ok-y.ensures.inside, search rules, search (elements_start, c.in_ok-y.ensures))
 
-pub list-part-x-requires : goal.list-part-x-requires
-list-part-x-requires t c = (search rules, (search rules, search rules, search element_sound, (search rules, search rules)))
+pub list-part-requires : goal.list-part-requires
+list-part-requires t c = (search rules, (search element_sound, (search rules, search rules)))
 
-pub list-returns-then-not-x : goal.list-returns-then-not-x
-list-returns-then-not-x t c = search elements_stopped
+pub list-returns-in_err-x : goal.list-returns-in_err-x
+list-returns-in_err-x t c = rw c.from_residual-in_err-x.ensures (search (elements_fail, not_simple, c.in_err-x.ensures))
 
-pub list-loop-j-preserved : goal.list-loop-j-preserved
-list-loop-j-preserved t c = (search rules, search rules, search rules, search rules, search rules, search rules, search rules, search elements_turn)
+pub list-loop-preserved : goal.list-loop-preserved
+list-loop-preserved t c = (c.in_ok-x.ensures.inside, search rules, search (elements_turn, not_simple, c.in_ok-x.ensures))
 
 pub list-returns : goal.list-returns
 list-returns t c = search elements_done
 
-pub marked_row-returns-then-not-x : goal.marked_row-returns-then-not-x
-marked_row-returns-then-not-x t c = search part_cut
+pub marked_row-returns-in_err-m : goal.marked_row-returns-in_err-m
+unfolding survey_part
+marked_row-returns-in_err-m t c = rw c.from_residual.ensures (search (mark_fails, c.in_err-m.ensures))
 
-pub marked_row-returns-then-mark-eq0 : goal.marked_row-returns-then-mark-eq0
-marked_row-returns-then-mark-eq0 t c = search object_none
+pub marked_row-returns-in-Absent : goal.marked_row-returns-in-Absent
+unfolding survey_part may_lack
+marked_row-returns-in-Absent t c = search (surveyed_absent, c.in_ok-m.ensures)
 
-pub marked_row-returns-then-mark-eq1 : goal.marked_row-returns-then-mark-eq1
-marked_row-returns-then-mark-eq1 t c = search object_there
+pub marked_row-returns-in-Present : goal.marked_row-returns-in-Present
+unfolding survey_part
+marked_row-returns-in-Present t c = search (surveyed_present, object_present, c.in_ok-m.ensures)
 
-pub marked_row-returns : goal.marked_row-returns
-marked_row-returns t c = search object_bad
+pub marked_row-returns-in-Unknown : goal.marked_row-returns-in-Unknown
+unfolding survey_part survey_unknown
+marked_row-returns-in-Unknown t c = search (unknown_fails, c.in_ok-m.ensures)
 
 pub object-returns-then-d-eq0 : goal.object-returns-then-d-eq0
 object-returns-then-d-eq0 t c = search object_deep
@@ -133,74 +142,69 @@ object-returns-in-Table t c = search object-table
 pub object-returns-in-DirectList : goal.object-returns-in-DirectList
 object-returns-in-DirectList t c = search object-direct
 
-pub part-returns-then-not-x : goal.part-returns-then-not-x
-part-returns-then-not-x t c = search part_cut
+pub part-returns-in_err-m : goal.part-returns-in_err-m
+unfolding survey_part
+part-returns-in_err-m t c = rw c.from_residual.ensures (search (mark_fails, c.in_err-m.ensures))
 
-pub part-returns-then-mark-eq0 : goal.part-returns-then-mark-eq0
-part-returns-then-mark-eq0 t c = search part_none
+pub part-returns-in-Absent : goal.part-returns-in-Absent
+part-returns-in-Absent t c = search (part_absent, c.in_ok-m.ensures)
 
-pub part-returns-then-mark-eq1 : goal.part-returns-then-mark-eq1
-part-returns-then-mark-eq1 t c = search part_there
+pub part-returns-in-Present : goal.part-returns-in-Present
+unfolding survey_part
+part-returns-in-Present t c = search (surveyed_present, c.in_ok-m.ensures)
 
-pub part-returns-then-mark-eq2 : goal.part-returns-then-mark-eq2
-part-returns-then-mark-eq2 t c = search part-unknown
+pub part-returns-in-Unknown : goal.part-returns-in-Unknown
+unfolding survey_part
+part-returns-in-Unknown t c = search (surveyed_unknown, c.in_ok-m.ensures)
 
-pub part-returns : goal.part-returns
-part-returns t c = search part_bad
+pub refer-returns-in-Some : goal.refer-returns-in-Some
+refer-returns-in-Some t c = search (refer-blob, c.in-Some.ensures)
 
-pub refer-returns-then-more-lt2 : goal.refer-returns-then-more-lt2
-refer-returns-then-more-lt2 t c = search refer-blob
+pub refer-returns-in_err-x : goal.refer-returns-in_err-x
+unfolding survey_object
+refer-returns-in_err-x t c = rw c.from_residual.ensures (search (bind_fails, c.in_err-x.ensures))
 
 pub refer-returns : goal.refer-returns
-refer-returns t c = search refer_surveyed
+refer-returns t c = search (refer_surveyed, c.in_ok-x.ensures)
 
 pub row-returns-then-d-eq0 : goal.row-returns-then-d-eq0
 row-returns-then-d-eq0 t c = search row_deep
 
+pub row-returns-in_err-x : goal.row-returns-in_err-x
+row-returns-in_err-x t c = rw c.from_residual.ensures (search (row_fails, c.in_err-x.ensures))
+
 pub row-returns : goal.row-returns
-row-returns t c = search row_there
+row-returns t c = search (row_there, c.in_ok-x.ensures)
 
-pub rows-loop-j-init : goal.rows-loop-j-init
-rows-loop-j-init t c = (search rules, search rules, search rules, search rules, search rules, search object-marked, search rules, search rules, search rows_start)
+pub rows-loop-init : goal.rows-loop-init
+rows-loop-init t c = (search rules, search rules, search rows_start)
 
-pub rows-returns-then-not-x : goal.rows-returns-then-not-x
-rows-returns-then-not-x t c = search elements_stopped
+pub rows-returns-in_err-x : goal.rows-returns-in_err-x
+rows-returns-in_err-x t c = rw c.from_residual.ensures (search (elements_fail, object-marked, c.in_err-x.ensures))
 
-pub rows-loop-j-preserved : goal.rows-loop-j-preserved
-rows-loop-j-preserved t c = (search rules, search rules, search rules, search rules, search rules, search rules, search rules, search rules, search elements_turn)
+pub rows-loop-preserved : goal.rows-loop-preserved
+rows-loop-preserved t c = (c.in_ok-x.ensures.inside, search rules, search (elements_turn, object-marked, c.in_ok-x.ensures))
 
 pub rows-returns : goal.rows-returns
 rows-returns t c = search elements_done
 
 pub table-loop-j-init : goal.table-loop-j-init
-table-loop-j-init t c = (search rules, search rules, search rules, search rules, search rules, search rules, search members_start)
+table-loop-j-init t c = (search rules, search rules, search rules, search members_start)
 
-pub table-simple_members-g-requires : goal.table-simple_members-g-requires
-table-simple_members-g-requires t c = search (members_few, rules)
+pub table-returns-in_err-g : goal.table-returns-in_err-g
+table-returns-in_err-g t c = rw c.from_residual.ensures (search (table_fails, c.in_err-g.ensures))
 
-pub table-returns-then-not-g : goal.table-returns-then-not-g
-table-returns-then-not-g t c = search table-cut
+pub table-returns-then-count-g : goal.table-returns-then-count-g
+table-returns-then-count-g t c = search (table_ended, c.in_ok-g.ensures)
 
-pub table-returns-then-count-i : goal.table-returns-then-count-i
-table-returns-then-count-i t c = search table_ended
+pub table-member_part-requires : goal.table-member_part-requires
+table-member_part-requires t c = (search rules, (member_kind _ _ c.args.schema.now.accepted _ _ _ c.member.ensures _ c.member_count-count.ensures.0 c.if-count-g.false, (search rules, c.in_ok-g.ensures.inside)))
 
-pub table-member-r-requires : goal.table-member-r-requires
-table-member-r-requires t c = (c.requires.0.directory, c.requires.2, search member-counted, search rules)
-
-pub table-member_part-x-requires : goal.table-member_part-x-requires
-table-member_part-x-requires t c = (omega arith, (c.requires.0, c.requires.1, member_kind _ _ c.requires.0 _ _ _ c.member-r.ensures _ c.loop-j.invariant.1 c.if-count-i.false, (c.requires.3.0, c.simple_members-g.ensures.inside)))
-
-pub table-returns-then-not-x : goal.table-returns-then-not-x
-table-returns-then-not-x t c = table_stopped _ _ _ _ _ _ c.loop-j.a c.loop-j.pos c.loop-j.j c.loop-j.invariant.6 c.simple_members-g.result.whole c.simple_members-g.result.index c.simple_members-g.result.extent c.simple_members-g.result.next c.simple_members-g.ensures c.if-not-g.false _ c.loop-j.invariant.1 c.if-count-i.false _ c.member-r.ensures c.member_part-x.result.whole c.member_part-x.result.extent c.member_part-x.result.next c.member_part-x.ensures c.loop-j.invariant.3 c.if-not-x.true _ _ _ c.unlawful-then-not-x.ensures.0 c.unlawful-then-not-x.ensures.1 c.unlawful-then-not-x.ensures.2
-
-pub table-overflow_add-j : goal.table-overflow_add-j
-table-overflow_add-j t c = record { fits = omega (arith, c.if-count-i.false, c.loop-j.invariant.2) }
-
-pub table-loop-j-smaller : goal.table-loop-j-smaller
-table-loop-j-smaller t c = omega (arith, c.if-count-i.false, c.loop-j-test.true, c.simple_members-g.ensures.on)
+pub table-returns-in_err-x : goal.table-returns-in_err-x
+table-returns-in_err-x t c = rw c.from_residual-in_err-x.ensures (search (table_stops, c.in_ok-g.ensures, c.in_err-x.ensures))
 
 pub table-loop-j-preserved : goal.table-loop-j-preserved
-table-loop-j-preserved t c = (search rules, c.loop-j.invariant.1, c.loop-j.invariant.2, c.loop-j.invariant.3, search rules, search rules, table_turn _ _ _ _ _ c.args.at c.loop-j.a c.loop-j.pos c.loop-j.j c.loop-j.invariant.6 c.simple_members-g.result.whole c.simple_members-g.result.index c.simple_members-g.result.extent c.simple_members-g.result.next c.simple_members-g.ensures c.if-not-g.false _ c.loop-j.invariant.1 c.if-count-i.false _ c.member-r.ensures c.member_part-x.result.whole c.member_part-x.result.extent c.member_part-x.result.next c.member_part-x.ensures c.if-not-x.false _ c.joined-a.ensures)
+table-loop-j-preserved t c = (search rules, c.in_ok-x.ensures.inside, search rules, search (table_turn, c.in_ok-g.ensures, c.in_ok-x.ensures))
 
 pub table-returns : goal.table-returns
 table-returns t c = search members_done

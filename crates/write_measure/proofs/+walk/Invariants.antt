@@ -1,13 +1,10 @@
-use Prim.Native.Nat.{◌+◌, ◌-◌, ◌*◌, ◌^◌, ◌<◌, ◌≤◌}
+use Rattle.schema.specs.Parsed.{parsed}
+use Prim.Native.Nat.{◌+◌, ◌-◌, ◌*◌, ◌≤◌}
 use mathlib.Core.Path.{◌≡◌}
-use mathlib.Core.Bool.{false}
 use lib.ListN.{length, drop}
 use Rattle.coding.specs.Bits.{bits}
-use Rattle.coding.specs.Packed as P
 use Rattle.coding.specs.Schema as Sc
-use Rattle.coding.specs.Layout as L
 use Rattle.coding.specs.declared.Kind.TheVariants.{OfObject}
-use Rattle.coding.specs.Sheet.{unmarked}
 use Rattle.coding.specs.declared.Object.TheVariants as O
 use Rattle.write_measure.specs.Survey.{opened, survey_members, survey_elements, survey_directs, survey_content, survey}
 use Rattle.write_measure.specs.Surveyed.{Small}
@@ -55,33 +52,22 @@ decreases-table l = 8 * l.d + 6
 abbrev pub decreases-table_found : goal.decreases-table_found
 decreases-table_found l = 8 * l.d + 7
 
-abbrev pub invariant-directs-loop-j : goal.invariant-directs-loop-j
-invariant-directs-loop-j l = (l.j ≤ l.n) × (l.n < 2 ^ 32) × (l.at ≤ 8 * length l.s) × (l.pos ≤ 8 * length l.s) × Small l.a
-    × (l.size ≡ L.fixed_size l.o (P.parse l.b) (Sc.table_of (P.parse l.b) l.t).members) × (l.size < 2 ^ 21)
-    × (survey_content (survey l.d l.o (P.parse l.b)) l.o (P.parse l.b) (O.DirectList l.t) (drop l.at (bits l.s)) ≡ survey_directs (survey l.d l.o (P.parse l.b)) l.t (l.n - l.j) l.a (drop l.pos (bits l.s)))
+abbrev pub invariant-directs-loop : goal.invariant-directs-loop
+invariant-directs-loop l = (l.pos ≤ 8 * length l.s) × Small l.a
+    × (survey_content (survey l.d l.schema.width (parsed l.schema)) l.schema.width (parsed l.schema) (O.DirectList l.t) (drop l.at (bits l.s)) ≡ survey_directs (survey l.d l.schema.width (parsed l.schema)) l.t (l.n - l.counter) l.a (drop l.pos (bits l.s)))
 
-abbrev pub decreases-directs-loop-j : goal.decreases-directs-loop-j
-decreases-directs-loop-j l = l.n - l.j
+abbrev pub invariant-list-loop : goal.invariant-list-loop
+invariant-list-loop l = (l.pos ≤ 8 * length l.s) × Small l.a
+    × (survey_content (survey l.d l.schema.width (parsed l.schema)) l.schema.width (parsed l.schema) (O.List l.i) (drop l.at (bits l.s)) ≡ survey_elements (survey l.d l.schema.width (parsed l.schema)) l.schema.width (parsed l.schema) l.k (l.n - l.counter) l.a (drop l.pos (bits l.s)))
 
-abbrev pub invariant-list-loop-j : goal.invariant-list-loop-j
-invariant-list-loop-j l = (l.j ≤ l.n) × (l.n < 2 ^ 32) × (length l.s ≤ 16777215) × (l.at ≤ 8 * length l.s) × (l.pos ≤ 8 * length l.s) × Small l.a × (unmarked l.k ≡ false)
-    × (survey_content (survey l.d l.o (P.parse l.b)) l.o (P.parse l.b) (O.List l.i) (drop l.at (bits l.s)) ≡ survey_elements (survey l.d l.o (P.parse l.b)) l.o (P.parse l.b) l.k (l.n - l.j) l.a (drop l.pos (bits l.s)))
-
-abbrev pub decreases-list-loop-j : goal.decreases-list-loop-j
-decreases-list-loop-j l = l.n - l.j
-
-abbrev pub invariant-rows-loop-j : goal.invariant-rows-loop-j
-invariant-rows-loop-j l = (l.j ≤ l.n) × (l.n < 2 ^ 32) × (l.at ≤ 8 * length l.s) × (l.pos ≤ 8 * length l.s) × Small l.a × (unmarked (OfObject (O.Table l.t)) ≡ false)
-    × (l.size ≡ L.fixed_size l.o (P.parse l.b) (Sc.table_of (P.parse l.b) l.t).members) × (l.size < 2 ^ 21)
-    × (survey_elements (survey l.d l.o (P.parse l.b)) l.o (P.parse l.b) (OfObject (O.Table l.t)) l.n (opened l.n l.total) (drop l.at (bits l.s))
-    ≡ survey_elements (survey l.d l.o (P.parse l.b)) l.o (P.parse l.b) (OfObject (O.Table l.t)) (l.n - l.j) l.a (drop l.pos (bits l.s)))
-
-abbrev pub decreases-rows-loop-j : goal.decreases-rows-loop-j
-decreases-rows-loop-j l = l.n - l.j
+abbrev pub invariant-rows-loop : goal.invariant-rows-loop
+invariant-rows-loop l = (l.pos ≤ 8 * length l.s) × Small l.a
+    × (survey_elements (survey l.d l.schema.width (parsed l.schema)) l.schema.width (parsed l.schema) (OfObject (O.Table l.t)) l.n (opened l.n l.total) (drop l.at (bits l.s))
+    ≡ survey_elements (survey l.d l.schema.width (parsed l.schema)) l.schema.width (parsed l.schema) (OfObject (O.Table l.t)) (l.n - l.counter) l.a (drop l.pos (bits l.s)))
 
 abbrev pub invariant-table-loop-j : goal.invariant-table-loop-j
-invariant-table-loop-j l = (l.j ≤ l.count) × (l.count ≡ length (Sc.table_of (P.parse l.b) l.t).members) × (l.count < 256) × (l.at ≤ 8 * length l.s) × (l.pos ≤ 8 * length l.s) × Small l.a
-    × (survey_content (survey l.d l.o (P.parse l.b)) l.o (P.parse l.b) (O.Table l.t) (drop l.at (bits l.s)) ≡ survey_members (survey l.d l.o (P.parse l.b)) l.o (P.parse l.b) (drop l.j (Sc.table_of (P.parse l.b) l.t).members) l.a (drop l.pos (bits l.s)))
+invariant-table-loop-j l = (l.j ≤ l.count) × (l.pos ≤ 8 * length l.s) × Small l.a
+    × (survey_content (survey l.d l.schema.width (parsed l.schema)) l.schema.width (parsed l.schema) (O.Table l.t) (drop l.at (bits l.s)) ≡ survey_members (survey l.d l.schema.width (parsed l.schema)) l.schema.width (parsed l.schema) (drop l.j (Sc.table_of (parsed l.schema) l.t).members) l.a (drop l.pos (bits l.s)))
 
 abbrev pub decreases-table-loop-j : goal.decreases-table-loop-j
 decreases-table-loop-j l = l.count - l.j

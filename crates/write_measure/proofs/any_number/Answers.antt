@@ -1,8 +1,8 @@
-use Rattle.write_measure.proofs.FlatCases.{any_whole, any-cut}
+use Rattle.write_measure.proofs.FlatCases.{any_left, any_short}
 use Rattle.write_measure.proofs.any_number.Goals as goal
 
-pub returns-then-w-s : goal.returns-then-w-s
-returns-then-w-s c = search any_whole
+pub returns-then-s-pos : goal.returns-then-s-pos
+returns-then-s-pos c = search any_short
 
 pub returns : goal.returns
-returns c = search any-cut
+returns c = search any_left

@@ -1,15 +1,19 @@
-use Rattle.write_measure.proofs.PartCases.{part_cut, object_none, object_bad}
-use Rattle.write_measure.proofs.SimpleCases.{marked-blob}
+use Rattle.write_measure.specs.Survey.{may_lack, survey_part, survey_unknown}
+use Rattle.write_measure.proofs.MarkCases.{mark_fails, surveyed_absent, unknown_fails}
+use Rattle.write_measure.proofs.SimpleCases.{marked_blob}
 use Rattle.write_measure.proofs.blob_part.Goals as goal
 
-pub returns-then-not-x : goal.returns-then-not-x
-returns-then-not-x c = search part_cut
+pub returns-in_err-m : goal.returns-in_err-m
+unfolding survey_part
+returns-in_err-m c = rw c.from_residual.ensures (search (mark_fails, c.in_err-m.ensures))
 
-pub returns-then-mark-eq0 : goal.returns-then-mark-eq0
-returns-then-mark-eq0 c = search object_none
+pub returns-in-Absent : goal.returns-in-Absent
+unfolding survey_part may_lack
+returns-in-Absent c = search (surveyed_absent, c.in_ok-m.ensures)
 
-pub returns-then-mark-eq1 : goal.returns-then-mark-eq1
-returns-then-mark-eq1 c = search marked-blob
+pub returns-in-Present : goal.returns-in-Present
+returns-in-Present c = search (marked_blob, c.in_ok-m.ensures)
 
-pub returns : goal.returns
-returns c = search object_bad
+pub returns-in-Unknown : goal.returns-in-Unknown
+unfolding survey_part survey_unknown
+returns-in-Unknown c = search (unknown_fails, c.in_ok-m.ensures)

@@ -1,17 +1,19 @@
-use Rattle.write_measure.proofs.FlatCases.{mark-cut, mark_none, mark-known, mark-unknown, mark_bad}
+use Rattle.write_measure.specs.Survey.{enum_field}
+use Rattle.write_measure.proofs.MarkCases.{mark_fails, tested_absent, tested_present, tested_unknown}
 use Rattle.write_measure.proofs.enum_field.Goals as goal
 
-pub returns-then-not-x : goal.returns-then-not-x
-returns-then-not-x c = search mark-cut
+pub returns-in_err-m : goal.returns-in_err-m
+unfolding enum_field
+returns-in_err-m c = rw c.from_residual.ensures (search (mark_fails, c.in_err-m.ensures))
 
-pub returns-then-mark-eq0 : goal.returns-then-mark-eq0
-returns-then-mark-eq0 c = search mark_none
+pub returns-in-Absent : goal.returns-in-Absent
+unfolding enum_field
+returns-in-Absent c = search (tested_absent, c.in_ok-m.ensures)
 
-pub returns-then-mark-eq1 : goal.returns-then-mark-eq1
-returns-then-mark-eq1 c = search mark-known
+pub returns-in-Present : goal.returns-in-Present
+unfolding enum_field
+returns-in-Present c = search (tested_present, c.in_ok-m.ensures)
 
-pub returns-then-mark-eq2 : goal.returns-then-mark-eq2
-returns-then-mark-eq2 c = search mark-unknown
-
-pub returns : goal.returns
-returns c = search mark_bad
+pub returns-in-Unknown : goal.returns-in-Unknown
+unfolding enum_field
+returns-in-Unknown c = search (tested_unknown, c.in_ok-m.ensures)

@@ -1,17 +1,19 @@
-use Rattle.write_measure.proofs.SimpleCases.{flat-cut, flat_none, flat_there, flat-unknown, flat_bad}
+use Rattle.write_measure.specs.SimpleMembers.{flat_part}
+use Rattle.write_measure.proofs.MarkCases.{mark_fails, tested_absent, tested_present, tested_unknown}
 use Rattle.write_measure.proofs.flat_part.Goals as goal
 
-pub returns-then-not-x : goal.returns-then-not-x
-returns-then-not-x c = search flat-cut
+pub returns-in_err-m : goal.returns-in_err-m
+unfolding flat_part
+returns-in_err-m c = rw c.from_residual.ensures (search (mark_fails, c.in_err-m.ensures))
 
-pub returns-then-mark-eq0 : goal.returns-then-mark-eq0
-returns-then-mark-eq0 c = search flat_none
+pub returns-in-Absent : goal.returns-in-Absent
+unfolding flat_part
+returns-in-Absent c = search (tested_absent, c.in_ok-m.ensures)
 
-pub returns-then-mark-eq1 : goal.returns-then-mark-eq1
-returns-then-mark-eq1 c = search flat_there
+pub returns-in-Present : goal.returns-in-Present
+unfolding flat_part
+returns-in-Present c = search (tested_present, c.in_ok-m.ensures)
 
-pub returns-then-mark-eq2 : goal.returns-then-mark-eq2
-returns-then-mark-eq2 c = search flat-unknown
-
-pub returns : goal.returns
-returns c = search flat_bad
+pub returns-in-Unknown : goal.returns-in-Unknown
+unfolding flat_part
+returns-in-Unknown c = rw (← c.flat_at.ensures) (search (tested_unknown, c.in_ok-m.ensures))

@@ -4,5 +4,5 @@ use Rattle.write_measure.proofs.may_lack_at.Goals as goal
 pub returns-then-kind_at-eq-KIND_ENUM : goal.returns-then-kind_at-eq-KIND_ENUM
 returns-then-kind_at-eq-KIND_ENUM c = search lack-enum
 
-pub returns : goal.returns
-returns c = search lack-other
+pub returns-else-kind_at-eq-KIND_ENUM : goal.returns-else-kind_at-eq-KIND_ENUM
+returns-else-kind_at-eq-KIND_ENUM c = search lack-other

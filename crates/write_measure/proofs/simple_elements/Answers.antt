@@ -1,13 +1,13 @@
 use borrow.Author.Rules.{rules}
 use Rattle.write_measure.proofs.PartCases.{kind-flat}
-use Rattle.write_measure.proofs.ElementCases.{element_scalar, element-marked, element-blob, elements-passed, elements-flat, elements-object, elements-union}
+use Rattle.write_measure.proofs.ElementCases.{element-marked, element-blob, elements-passed, elements-flat, elements-object, elements-union}
 use Rattle.write_measure.proofs.simple_elements.Goals as goal
 
-pub returns-then-unmarked : goal.returns-then-unmarked
-returns-then-unmarked c = search elements-passed
+pub returns-in-Some : goal.returns-in-Some
+returns-in-Some c = search (elements-passed, c.in-Some.ensures)
 
 pub scalar_elements-requires : goal.scalar_elements-requires
-scalar_elements-requires c = search (kind-flat, element_scalar, element-marked, rules)
+scalar_elements-requires c = search (kind-flat, element-marked, c.in_default.ensures, rules)
 
 pub blob_elements-requires : goal.blob_elements-requires
 blob_elements-requires c = search (element-blob, rules)

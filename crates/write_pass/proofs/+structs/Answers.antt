@@ -3,18 +3,19 @@ use mathlib.Core.Path.{refl}
 use native.Mathlib.Omega.{arith}
 use borrow.Author.Rules.{rules}
 use Rattle.write_measure.proofs.FlatCases.{struct-lower, field_sound}
+use Rattle.write_pass.proofs.EmitRoom.{going_room}
 use Rattle.write_pass.proofs.EmitCases.{integer_eight, float_eight}
-use Rattle.write_pass.proofs.StructCases.{field-counted, field_boolean, field_integer, field_float, field-enum, field-struct, fields_all, fields_room, fields-cut, fields_turn, fields_done}
+use Rattle.write_pass.proofs.StructCases.{field-counted, field_boolean, field_integer, field_float, field-enum, field-struct, fields_all, fields-cut, fields_turn, fields_done}
 use Rattle.write_pass.proofs.+structs.Goals as goal
 
-pub emit_field-emit_number-requires : goal.emit_field-emit_number-requires
-emit_field-emit_number-requires t c = search (integer_eight, rules)
+pub emit_field-emit_number-requires-clause-w_bound : goal.emit_field-emit_number-requires-clause-w_bound
+emit_field-emit_number-requires-clause-w_bound t c = search (integer_eight, rules)
 
-pub emit_field-emit_number-requires-in-Float : goal.emit_field-emit_number-requires-in-Float
-emit_field-emit_number-requires-in-Float t c = search (float_eight, rules)
+pub emit_field-emit_number-requires-in-Float-clause-w_bound : goal.emit_field-emit_number-requires-in-Float-clause-w_bound
+emit_field-emit_number-requires-in-Float-clause-w_bound t c = search (float_eight, rules)
 
 pub emit_field-emit_struct-requires : goal.emit_field-emit_struct-requires
-emit_field-emit_struct-requires t c = (let l : c.index-in-Struct.result < c.args.i = search struct-lower in (omega arith, ((search rules, omega arith), search rules)))
+emit_field-emit_struct-requires t c = let l : c.from-in-Struct.result < c.args.i = search struct-lower in (omega arith, (omega arith, search rules))
 
 pub emit_field-returns-in-Boolean : goal.emit_field-returns-in-Boolean
 emit_field-returns-in-Boolean t c = search field_boolean
@@ -32,19 +33,19 @@ pub emit_field-returns-in-Struct : goal.emit_field-returns-in-Struct
 emit_field-returns-in-Struct t c = search field-struct
 
 pub emit_struct-loop-j-init : goal.emit_struct-loop-j-init
-emit_struct-loop-j-init t c = (omega arith, refl, search fields_all)
+emit_struct-loop-j-init t c = (search rules, search rules, search rules, search fields_all)
 
 pub emit_struct-field-k-requires : goal.emit_struct-field-k-requires
-emit_struct-field-k-requires t c = (search rules, search rules, search field-counted, omega (arith, c.field_count-n.ensures.1, c.loop-j-test.true))
+emit_struct-field-k-requires t c = (search rules, search field-counted, omega (arith, c.loop-j.invariant.1, c.loop-j-test.true))
 
-pub emit_struct-emit_field-x-requires : goal.emit_struct-emit_field-x-requires
-emit_struct-emit_field-x-requires t c = search (field_sound, fields_room, rules)
+pub emit_struct-emit_field-requires : goal.emit_struct-emit_field-requires
+emit_struct-emit_field-requires t c = search (field_sound, going_room, rules)
 
-pub emit_struct-returns-then-not-x : goal.emit_struct-returns-then-not-x
-emit_struct-returns-then-not-x t c = search (fields-cut, c.emit_field-x.ensures, c.loop-j.invariant.2)
+pub emit_struct-returns-in_err-at : goal.emit_struct-returns-in_err-at
+emit_struct-returns-in_err-at t c = search (fields-cut, c.in_err-at.ensures)
 
 pub emit_struct-loop-j-preserved : goal.emit_struct-loop-j-preserved
-emit_struct-loop-j-preserved t c = (search rules, search rules, search (fields_turn, c.emit_field-x.ensures, c.loop-j.invariant.2))
+emit_struct-loop-j-preserved t c = (search rules, search rules, search rules, search (fields_turn, c.in_ok-at.ensures))
 
 pub emit_struct-returns : goal.emit_struct-returns
 emit_struct-returns t c = search fields_done

@@ -1,8 +1,12 @@
-use Prim.Native.Nat.{◌+◌, ◌-◌, ◌*◌, ◌≤◌}
 use mathlib.Core.Path.{◌≡◌}
-use lib.ListN.{length}
-use Rattle.coding.specs.Packed as P
-use Rattle.write_pass.proofs.StructCases.{FieldsFrom}
+use Prim.Native.Nat.{◌+◌, ◌*◌, ◌<◌}
+use lib.ListN.{length, drop}
+use Rattle.coding.specs.Bits.{bits}
+use Rattle.coding.specs.Schema as Sc
+use Rattle.schema.specs.Parsed.{parsed}
+use Rattle.write_pass.specs.EmitSheet.{emit_fields, emit_struct}
+use Rattle.write_store.specs.Storing.{state_of}
+use Rattle.write_pass.proofs.EmitRoom.{Going}
 use Rattle.write_pass.proofs.+structs.Given as goal
 
 abbrev pub decreases-emit_field : goal.decreases-emit_field
@@ -12,7 +16,5 @@ abbrev pub decreases-emit_struct : goal.decreases-emit_struct
 decreases-emit_struct l = 2 * l.i + 1
 
 abbrev pub invariant-emit_struct-loop-j : goal.invariant-emit_struct-loop-j
-invariant-emit_struct-loop-j l = (l.j ≤ l.n) × (length l.out ≡ length l.initial.out) × FieldsFrom (P.parse l.b) l.s l.i l.pos l.c l.initial.out l.j l.at l.p l.out
-
-abbrev pub decreases-emit_struct-loop-j : goal.decreases-emit_struct-loop-j
-decreases-emit_struct-loop-j l = l.n - l.j
+invariant-emit_struct-loop-j l = (l.n ≡ length (Sc.struct_of (parsed l.schema) l.i)) × (l.n < 256) × (length l.out ≡ length l.initial.out)
+    × Going l.s (emit_struct (parsed l.schema) l.i (state_of l.fn.from.places l.initial.out) (drop l.fn.from.next (bits l.s))) l.fn.from (emit_fields (emit_struct (parsed l.schema)) (drop l.j (Sc.struct_of (parsed l.schema) l.i))) l.at l.out

@@ -1,15 +1,15 @@
-use Prim.Native.Nat.{◌+◌, ◌-◌, ◌*◌, ◌^◌, ◌<◌, ◌≤◌}
+use Rattle.schema.specs.Parsed.{parsed}
+use Prim.Native.Nat.{◌+◌, ◌-◌, ◌*◌, ◌^◌, ◌<◌}
 use mathlib.Core.Path.{◌≡◌}
 use lib.ListN.{length, drop}
 use Rattle.coding.specs.Bits.{bits}
-use Rattle.coding.specs.Packed as P
 use Rattle.coding.specs.Schema as Sc
 use Rattle.coding.specs.declared.Object.TheVariants as O
 use Rattle.coding.specs.declared.Kind.TheVariants.{OfObject}
 use Rattle.write_measure.specs.Survey.{survey}
 use Rattle.write_pass.specs.EmitSheet.{emit_members, emit_elements, emit_directs, emit_content, emit}
 use Rattle.write_store.specs.Storing.{state_of}
-use Rattle.write_pass.specs.Emitting.{Room}
+use Rattle.write_pass.proofs.EmitRoom.{Going}
 use Rattle.write_pass.proofs.+walk.Given as goal
 
 abbrev pub decreases-emit_body : goal.decreases-emit_body
@@ -58,29 +58,21 @@ abbrev pub decreases-emit_table : goal.decreases-emit_table
 decreases-emit_table l = 16 * l.d + 8
 
 abbrev pub invariant-emit_directs-loop-j : goal.invariant-emit_directs-loop-j
-invariant-emit_directs-loop-j l = (l.j ≤ l.n) × (l.n < 2 ^ 32) × (length l.out ≡ length l.initial.out) × Room l.s l.pos l.c × Room l.s l.at l.p × (l.p.at + 8192 * l.pos ≤ l.c.at + 8192 * l.at)
-    × (emit_directs (emit l.d l.o (P.parse l.b)) l.t l.n (state_of l.c l.initial.out) (drop l.pos (bits l.s)) ≡ emit_directs (emit l.d l.o (P.parse l.b)) l.t (l.n - l.j) (state_of l.p l.out) (drop l.at (bits l.s)))
-
-abbrev pub decreases-emit_directs-loop-j : goal.decreases-emit_directs-loop-j
-decreases-emit_directs-loop-j l = l.n - l.j
+invariant-emit_directs-loop-j l = (l.n < 2 ^ 32) × (length l.out ≡ length l.initial.out)
+    × Going l.s (emit_directs (emit l.d l.schema.width (parsed l.schema)) l.t l.n (state_of l.fn.from.places l.initial.out) (drop l.fn.from.next (bits l.s))) l.fn.from
+    (emit_directs (emit l.d l.schema.width (parsed l.schema)) l.t (l.n - l._j)) l.at l.out
 
 abbrev pub invariant-emit_elements-loop-j : goal.invariant-emit_elements-loop-j
-invariant-emit_elements-loop-j l = (l.j ≤ l.n) × (l.n < 2 ^ 32) × (length l.out ≡ length l.initial.out) × Room l.s l.pos l.c × Room l.s l.at l.p × (l.p.at + 8192 * l.pos ≤ l.c.at + 8192 * l.at)
-    × (emit_elements (emit l.d l.o (P.parse l.b)) (survey l.d l.o (P.parse l.b)) l.o (P.parse l.b) l.k l.n (state_of l.c l.initial.out) (drop l.pos (bits l.s)) ≡ emit_elements (emit l.d l.o (P.parse l.b)) (survey l.d l.o (P.parse l.b)) l.o (P.parse l.b) l.k (l.n - l.j) (state_of l.p l.out) (drop l.at (bits l.s)))
-
-abbrev pub decreases-emit_elements-loop-j : goal.decreases-emit_elements-loop-j
-decreases-emit_elements-loop-j l = l.n - l.j
+invariant-emit_elements-loop-j l = (l.n < 2 ^ 32) × (length l.out ≡ length l.initial.out)
+    × Going l.s (emit_elements (emit l.d l.schema.width (parsed l.schema)) (survey l.d l.schema.width (parsed l.schema)) l.schema.width (parsed l.schema) l.k l.n (state_of l.fn.from.places l.initial.out) (drop l.fn.from.next (bits l.s))) l.fn.from
+    (emit_elements (emit l.d l.schema.width (parsed l.schema)) (survey l.d l.schema.width (parsed l.schema)) l.schema.width (parsed l.schema) l.k (l.n - l._j)) l.at l.out
 
 abbrev pub invariant-emit_objects-loop-j : goal.invariant-emit_objects-loop-j
-invariant-emit_objects-loop-j l = (l.j ≤ l.n) × (l.n < 2 ^ 32) × (length l.out ≡ length l.initial.out) × Room l.s l.pos l.c × Room l.s l.at l.p × (l.p.at + 8192 * l.pos ≤ l.c.at + 8192 * l.at)
-    × (emit_elements (emit l.d l.o (P.parse l.b)) (survey l.d l.o (P.parse l.b)) l.o (P.parse l.b) (OfObject l.ob) l.n (state_of l.c l.initial.out) (drop l.pos (bits l.s)) ≡ emit_elements (emit l.d l.o (P.parse l.b)) (survey l.d l.o (P.parse l.b)) l.o (P.parse l.b) (OfObject l.ob) (l.n - l.j) (state_of l.p l.out) (drop l.at (bits l.s)))
-
-abbrev pub decreases-emit_objects-loop-j : goal.decreases-emit_objects-loop-j
-decreases-emit_objects-loop-j l = l.n - l.j
+invariant-emit_objects-loop-j l = (l.n < 2 ^ 32) × (length l.out ≡ length l.initial.out)
+    × Going l.s (emit_elements (emit l.d l.schema.width (parsed l.schema)) (survey l.d l.schema.width (parsed l.schema)) l.schema.width (parsed l.schema) (OfObject l.ob) l.n (state_of l.fn.from.places l.initial.out) (drop l.fn.from.next (bits l.s))) l.fn.from
+    (emit_elements (emit l.d l.schema.width (parsed l.schema)) (survey l.d l.schema.width (parsed l.schema)) l.schema.width (parsed l.schema) (OfObject l.ob) (l.n - l._j)) l.at l.out
 
 abbrev pub invariant-emit_table-loop-j : goal.invariant-emit_table-loop-j
-invariant-emit_table-loop-j l = (l.j ≤ l.n) × (l.n ≡ length (Sc.table_of (P.parse l.b) l.t).members) × (l.n < 256) × (length l.out ≡ length l.initial.out) × Room l.s l.pos l.c × Room l.s l.at l.p × (l.p.at + 8192 * l.pos ≤ l.c.at + 8192 * l.at)
-    × (emit_content (emit l.d l.o (P.parse l.b)) (survey l.d l.o (P.parse l.b)) l.o (P.parse l.b) (O.Table l.t) (state_of l.c l.initial.out) (drop l.pos (bits l.s)) ≡ emit_members (emit l.d l.o (P.parse l.b)) (survey l.d l.o (P.parse l.b)) l.o (P.parse l.b) (drop l.j (Sc.table_of (P.parse l.b) l.t).members) (state_of l.p l.out) (drop l.at (bits l.s)))
-
-abbrev pub decreases-emit_table-loop-j : goal.decreases-emit_table-loop-j
-decreases-emit_table-loop-j l = l.n - l.j
+invariant-emit_table-loop-j l = (l.n ≡ length (Sc.table_of (parsed l.schema) l.t).members) × (l.n < 256) × (length l.out ≡ length l.initial.out)
+    × Going l.s (emit_content (emit l.d l.schema.width (parsed l.schema)) (survey l.d l.schema.width (parsed l.schema)) l.schema.width (parsed l.schema) (O.Table l.t) (state_of l.fn.from.places l.initial.out) (drop l.fn.from.next (bits l.s))) l.fn.from
+    (emit_members (emit l.d l.schema.width (parsed l.schema)) (survey l.d l.schema.width (parsed l.schema)) l.schema.width (parsed l.schema) (drop l.j (Sc.table_of (parsed l.schema) l.t).members)) l.at l.out

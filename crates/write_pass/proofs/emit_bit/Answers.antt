@@ -1,8 +1,8 @@
 use Rattle.write_pass.proofs.EmitCases.{number_cut, bit_there}
 use Rattle.write_pass.proofs.emit_bit.Goals as goal
 
-pub returns-then-not-x : goal.returns-then-not-x
-returns-then-not-x c = search number_cut
+pub returns-in_err-x : goal.returns-in_err-x
+returns-in_err-x c = search (number_cut, c.in_err-x.ensures)
 
 pub returns : goal.returns
-returns c = search bit_there
+returns c = search (bit_there, c.in_ok-x.ensures)

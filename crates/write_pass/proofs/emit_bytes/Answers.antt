@@ -3,14 +3,14 @@ use Rattle.write_pass.proofs.EmitRoom.{room-below}
 use Rattle.write_pass.proofs.EmitCases.{copied_fits, bytes_cut, bytes_there}
 use Rattle.write_pass.proofs.emit_bytes.Goals as goal
 
-pub copy_blob-x-requires : goal.copy_blob-x-requires
-copy_blob-x-requires c = search (room-below, rules)
+pub copy_blob-requires : goal.copy_blob-requires
+copy_blob-requires c = search (room-below, rules)
 
-pub returns-then-not-x : goal.returns-then-not-x
-returns-then-not-x c = search bytes_cut
+pub returns-in_err-x : goal.returns-in_err-x
+returns-in_err-x c = search (bytes_cut, c.in_err-x.ensures)
 
 pub forward-requires : goal.forward-requires
-forward-requires c = search copied_fits
+forward-requires c = search (copied_fits, c.in_ok-x.ensures)
 
 pub returns : goal.returns
-returns c = search bytes_there
+returns c = search (bytes_there, c.in_ok-x.ensures)

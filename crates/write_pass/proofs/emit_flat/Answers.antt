@@ -4,14 +4,14 @@ use Rattle.write_pass.proofs.EmitCases.{integer_eight, float_eight}
 use Rattle.write_pass.proofs.StructCases.{flat_boolean, flat_integer_lem, flat_float, flat-enum, flat-struct}
 use Rattle.write_pass.proofs.emit_flat.Goals as goal
 
-pub emit_number-requires : goal.emit_number-requires
-emit_number-requires c = search (integer_eight, rules)
+pub emit_number-requires-clause-w_bound : goal.emit_number-requires-clause-w_bound
+emit_number-requires-clause-w_bound c = search (integer_eight, rules)
 
-pub emit_number-requires-in-Float : goal.emit_number-requires-in-Float
-emit_number-requires-in-Float c = search (float_eight, rules)
+pub emit_number-requires-in-Float-clause-w_bound : goal.emit_number-requires-in-Float-clause-w_bound
+emit_number-requires-in-Float-clause-w_bound c = search (float_eight, rules)
 
-pub emit_struct-requires : goal.emit_struct-requires
-emit_struct-requires c = search (struct-counted, rules)
+pub emit_struct-requires-clause-in_bounds : goal.emit_struct-requires-clause-in_bounds
+emit_struct-requires-clause-in_bounds c = search (struct-counted, rules)
 
 pub returns-in-Boolean : goal.returns-in-Boolean
 returns-in-Boolean c = search flat_boolean

@@ -1,16 +1,19 @@
 use borrow.Author.Rules.{rules}
-use Rattle.write_pass.proofs.EmitRoom.{room_copied}
-use Rattle.write_pass.proofs.RunCases.{flats-cut, flats_done, flats_turn}
+use Rattle.write_pass.proofs.EmitRoom.{begun, going_room}
+use Rattle.write_pass.proofs.RunCases.{flats_start, flats-cut, flats_done, flats_turn}
 use Rattle.write_pass.proofs.emit_flats.Goals as goal
 
-pub loop-left-init : goal.loop-left-init
-loop-left-init c = (search rules, search rules, search rules, search rules, search rules)
+pub loop-j-init : goal.loop-j-init
+loop-j-init c = (search rules, search flats_start)
 
-pub returns-then-not-e : goal.returns-then-not-e
-returns-then-not-e c = search flats-cut
+pub emit_marked_flat-requires-clause-room : goal.emit_marked_flat-requires-clause-room
+emit_marked_flat-requires-clause-room c = search going_room
 
-pub loop-left-preserved : goal.loop-left-preserved
-loop-left-preserved c = (search rules, search rules, search room_copied, search rules, search flats_turn)
+pub returns-in_err-emit_marked_flat : goal.returns-in_err-emit_marked_flat
+returns-in_err-emit_marked_flat c = search (flats-cut, c.in_err-emit_marked_flat.ensures)
+
+pub loop-j-preserved : goal.loop-j-preserved
+loop-j-preserved c = (search rules, search (flats_turn, c.in_ok-emit_marked_flat.ensures))
 
 pub returns : goal.returns
 returns c = search flats_done

@@ -1,19 +1,19 @@
 use borrow.Author.Rules.{rules}
-use Rattle.write_pass.proofs.EmitRoom.{room_taken}
+use Rattle.write_pass.proofs.EmitRoom.{room_mark}
 use Rattle.write_pass.proofs.EmitCases.{float_cut, float_none, float_there, float_bad}
 use Rattle.write_pass.proofs.emit_marked_float.Goals as goal
 
-pub returns-then-not-x : goal.returns-then-not-x
-returns-then-not-x c = search float_cut
+pub returns-in_err-m : goal.returns-in_err-m
+returns-in_err-m c = search (float_cut, c.in_err-m.ensures)
 
-pub returns-then-mark-eq0 : goal.returns-then-mark-eq0
-returns-then-mark-eq0 c = search float_none
+pub returns-in-Absent : goal.returns-in-Absent
+returns-in-Absent c = search (float_none, c.in_ok-m.ensures)
 
-pub emit_number-requires : goal.emit_number-requires
-emit_number-requires c = search (room_taken, rules)
+pub emit_number-requires-clause-room : goal.emit_number-requires-clause-room
+emit_number-requires-clause-room c = search (room_mark, c.in_ok-m.ensures)
 
-pub returns-then-mark-eq1 : goal.returns-then-mark-eq1
-returns-then-mark-eq1 c = search float_there
+pub returns-in-Present : goal.returns-in-Present
+returns-in-Present c = search (float_there, c.in_ok-m.ensures)
 
-pub returns : goal.returns
-returns c = search float_bad
+pub returns-in-Unknown : goal.returns-in-Unknown
+returns-in-Unknown c = search (float_bad, c.in_ok-m.ensures)

@@ -1,25 +1,28 @@
 use borrow.Author.Rules.{rules}
-use Rattle.write_pass.proofs.EmitRoom.{room_flag, room-lack}
-use Rattle.write_pass.proofs.EmitPartCases.{part_cut, part_there, part_bad, part_none, part-pass}
+use Rattle.write_pass.proofs.EmitRoom.{room_flag, room-absent, room_low}
+use Rattle.write_pass.proofs.EmitPartCases.{part_cut, part_there, part_none, part-pass}
 use Rattle.write_pass.proofs.emit_terminal.Goals as goal
 
-pub returns-then-not-x : goal.returns-then-not-x
-returns-then-not-x c = search part_cut
+pub returns-in_err-m : goal.returns-in_err-m
+returns-in_err-m c = search (part_cut, c.in_err-m.ensures)
 
-pub terminal_body-requires : goal.terminal_body-requires
-terminal_body-requires c = search (room_flag, rules)
+pub absent-p-requires : goal.absent-p-requires
+absent-p-requires c = search (room_low, rules)
 
-pub returns-then-mark-eq1 : goal.returns-then-mark-eq1
-returns-then-mark-eq1 c = search (part_there, c.requires.room, c.take_number-x.ensures, c.if-not-x.false, c.if-mark-eq1.true, c.flag-p.ensures, c.terminal_body.ensures, c.requires.accepted.1.1)
+pub returns-in-Absent : goal.returns-in-Absent
+returns-in-Absent c = search (part_none, c.in_ok-m.ensures)
 
-pub returns-then-mark-eq3 : goal.returns-then-mark-eq3
-returns-then-mark-eq3 c = search part_bad
+pub terminal_body-requires-clause-room : goal.terminal_body-requires-clause-room
+terminal_body-requires-clause-room c = search (room_flag, c.in_ok-m.ensures)
 
-pub returns-then-mark-eq0 : goal.returns-then-mark-eq0
-returns-then-mark-eq0 c = search (part_none, c.requires.room, c.take_number-x.ensures, c.if-not-x.false, c.if-mark-eq1.false, c.if-mark-eq3.false, c.flag-p-2.ensures, c.lack-q.ensures, c.if-mark-eq0.true, c.stored.ensures.0, c.stored.ensures.1, c.stored.ensures.2)
+pub returns-in-Present : goal.returns-in-Present
+returns-in-Present c = search (part_there, c.requires.room, c.in_ok-m.ensures, c.in-Present.is, c.flag-p.ensures, c.behind-in-Present.ensures, c.terminal_body.ensures, c.args.schema.now.coded.1)
 
-pub pass-requires : goal.pass-requires
-pass-requires c = record { accepted = (c.requires.accepted.0, c.requires.accepted.2); room = search (room-lack, c.requires.room, c.take_number-x.ensures, c.if-not-x.false, c.flag-p-2.ensures, c.lack-q.ensures) }
+pub absent-p-requires-in-Unknown : goal.absent-p-requires-in-Unknown
+absent-p-requires-in-Unknown c = search (room_low, rules)
 
-pub returns : goal.returns
-returns c = search (part-pass, c.requires.room, c.take_number-x.ensures, c.if-not-x.false, c.if-mark-eq1.false, c.if-mark-eq3.false, c.flag-p-2.ensures, c.lack-q.ensures, c.if-mark-eq0.false, c.pass.ensures)
+pub pass-requires-clause-room : goal.pass-requires-clause-room
+pass-requires-clause-room c = search (room-absent, c.in_ok-m.ensures)
+
+pub returns-in-Unknown : goal.returns-in-Unknown
+returns-in-Unknown c = search (part-pass, c.in_ok-m.ensures)

@@ -6,17 +6,8 @@ use Rattle.write_pass.proofs.known_size.Goals as goal
 pub known_table-requires : goal.known_table-requires
 known_table-requires c = search (table_counted, rules)
 
-pub returns-in-Text : goal.returns-in-Text
-returns-in-Text c = search known_none
-
-pub returns-in-Bytes : goal.returns-in-Bytes
-returns-in-Bytes c = search known_none
-
-pub returns-in-List : goal.returns-in-List
-returns-in-List c = search known_none
-
 pub returns-in-Table : goal.returns-in-Table
 returns-in-Table c = search known-table
 
-pub returns-in-DirectList : goal.returns-in-DirectList
-returns-in-DirectList c = search known_none
+pub returns-in_default : goal.returns-in_default
+returns-in_default c = search known_none

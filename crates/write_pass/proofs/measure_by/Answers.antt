@@ -1,8 +1,9 @@
-use Rattle.write_pass.proofs.MeasureCases.{known_small, known_measured}
+use borrow.Author.Rules.{rules}
+use Rattle.write_pass.proofs.MeasureCases.{known-length, known-width, known_measured}
 use Rattle.write_pass.proofs.measure_by.Goals as goal
 
 pub opened-requires : goal.opened-requires
-opened-requires c = search known_small
+opened-requires c = (search known-length, search known-width)
 
-pub returns-then-n-gt0 : goal.returns-then-n-gt0
-returns-then-n-gt0 c = search known_measured
+pub returns-in-Some : goal.returns-in-Some
+returns-in-Some c = search known_measured

@@ -1,23 +1,28 @@
 use borrow.Author.Rules.{rules}
 use mathlib.Core.Path.{◌∙◌}
 use Rattle.write_pass.proofs.EmitRoom.{room-below, room_open, stood_next}
+use Rattle.write_pass.proofs.EmitPartCases.{blob_sound, measured_some, small_some, refer-none}
+use Rattle.write_pass.proofs.OpenCases.{object-by_offset}
 use Rattle.write_pass.proofs.EmitObjectCases.{refer-cut, refer_done}
 use Rattle.write_pass.proofs.refer_terminal.Goals as goal
+
+pub measure-requires : goal.measure-requires
+measure-requires c = search (blob_sound, rules)
+
+pub returns-in_err-e : goal.returns-in_err-e
+returns-in_err-e c = search (refer-none, c.in_err-e.ensures)
 
 pub put_reference-p-requires : goal.put_reference-p-requires
 put_reference-p-requires c = search (room-below, rules)
 
-pub open_terminal-q-requires : goal.open_terminal-q-requires
-open_terminal-q-requires c = search (stood_next, rules)
+pub open_object-q-requires : goal.open_object-q-requires
+open_object-q-requires c = (search blob_sound, search (small_some, c.in_ok-e.ensures), search (stood_next, rules))
 
-pub terminal_content-y-requires : goal.terminal_content-y-requires
-terminal_content-y-requires c = record { ob_value = c.requires.accepted.2; room = search (room_open, c.requires.room, c.open_terminal-q.ensures, c.requires.accepted.1.1) }
+pub terminal_content-requires-clause-room : goal.terminal_content-requires-clause-room
+terminal_content-requires-clause-room c = search (room_open, c.requires.room, c.open_object-q.ensures, c.behind.ensures, c.args.schema.now.coded.1)
 
-pub returns-then-not-y : goal.returns-then-not-y
-returns-then-not-y c = search (refer-cut, c.requires.accepted.0, c.requires.room, c.measure_terminal-e.ensures, c.put_reference-p.ensures, c.open_terminal-q.ensures, c.terminal_content-y.ensures, c.if-not-y.true, c.not_lawful.ensures.0, c.not_lawful.ensures.1, c.not_lawful.ensures.2)
-
-pub shape_of-out : goal.shape_of-out
-shape_of-out c = c.terminal_content-y.auto.out ∙ c.open_terminal-q.auto.out ∙ c.put_reference-p.auto.out
+pub returns-in_err-y : goal.returns-in_err-y
+returns-in_err-y c = search (refer-cut, c.args.schema.now.accepted, c.requires.room, measured_some, c.in_ok-e.ensures, c.put_reference-p.ensures, object-by_offset, c.open_object-q.ensures, c.behind.ensures, c.in_err-y.ensures, c.from_residual-in_err-y.ensures)
 
 pub returns : goal.returns
-returns c = search (refer_done, c.requires.accepted.0, c.requires.room, c.measure_terminal-e.ensures, c.put_reference-p.ensures, c.open_terminal-q.ensures, c.terminal_content-y.ensures, c.if-not-y.false, c.close.ensures, c.stored.ensures.0, c.stored.ensures.1, c.stored.ensures.2)
+returns c = search (refer_done, c.args.schema.now.accepted, c.requires.room, measured_some, c.in_ok-e.ensures, c.put_reference-p.ensures, object-by_offset, c.open_object-q.ensures, c.behind.ensures, c.in_ok-y.ensures, c.close.ensures, c.behind-2.ensures)

@@ -1,5 +1,8 @@
-use Rattle.write_store.proofs.StoreCases.{zeros-lent}
+use Rattle.write_store.proofs.StoreCases.{zeros-stored, zeros_none}
 use Rattle.write_store.proofs.store_zeros.Goals as goal
 
-pub returns : goal.returns
-returns c = search zeros-lent
+pub returns-then-at-end : goal.returns-then-at-end
+returns-then-at-end c = search zeros-stored
+
+pub returns-else-at-end : goal.returns-else-at-end
+returns-else-at-end c = search zeros_none

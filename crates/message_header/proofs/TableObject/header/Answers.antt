@@ -1,7 +1,0 @@
--- `message_header::TableObject::header` meets its contract.
-use Rattle.message_header.proofs.HeaderCases.{header_by}
-use borrow.Author.Rules.{rules}
-use Rattle.message_header.proofs.TableObject.header.Goals as goal
-
-pub returns : goal.returns
-returns c = (search header_by, search rules)

@@ -1,7 +1,0 @@
--- `schema::case_count` meets its contract.
-use native.Mathlib.Omega.{arith}
-use Rattle.schema.proofs.Access.{case-count_is}
-use Rattle.schema.proofs.case_count.Goals as goal
-
-pub returns : goal.returns
-returns c = (search case-count_is, omega arith)

@@ -1,6 +1,0 @@
--- `schema::element` meets its contract.
-use Rattle.schema.proofs.Access.{element_is}
-use Rattle.schema.proofs.element.Goals as goal
-
-pub returns : goal.returns
-returns c = search element_is

@@ -1,7 +1,0 @@
--- `schema::field_count` meets its contract.
-use native.Mathlib.Omega.{arith}
-use Rattle.schema.proofs.Access.{field-count_is}
-use Rattle.schema.proofs.field_count.Goals as goal
-
-pub returns : goal.returns
-returns c = (search field-count_is, omega arith)

@@ -1,6 +1,0 @@
--- `schema::struct_place` meets its contract.
-use Rattle.schema.proofs.Inside.{struct_block}
-use Rattle.schema.proofs.struct_place.Goals as goal
-
-pub returns : goal.returns
-returns c = search struct_block

@@ -1,7 +1,0 @@
--- `wire::u64_in` meets its contract, by the law over the width.
-use native.Mathlib.Omega.{arith}
-use Rattle.wire.specs.Numbers.{numbers_join}
-use Rattle.wire.proofs.u64_in.Goals as goal
-
-pub returns : goal.returns
-returns c = numbers_join c.args.m.now c.args.at 4 4 64 (omega arith) c.u32_in.ensures c.u32_in-2.ensures
