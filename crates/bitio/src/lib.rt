@@ -41,11 +41,11 @@ fn get_short(s: &[u8], pos: usize, width: usize) -> u64
     requires s_bound { (8 ≤ length s.now) × (8 * length s.now < 2 ^ 64) }
     ensures { Run s.now pos width result }
 {
-    let i = (pos >> 3).min(s.len() - 8);
-    let k = 8 * (i + 8) - pos - width;
-    if k == 64 {
+    if width == 0 {
         return 0;
     }
+    let i = (pos >> 3).min(s.len() - 8);
+    let k = 8 * (i + 8) - pos - width;
     bits::low(word(s, i) >> k, width)
 }
 

@@ -1,2 +1,3 @@
 pub mod ElementCases
 pub mod StartCases
+pub mod OffsetCases

@@ -1,7 +1,10 @@
 -- What a list reader starts from, what its steps answer, and how many elements it has.
-use Rattle.std.specs.Prelude.{◌≡◌, ℕ, List, Result, Ok, Err}
+use Rattle.std.specs.Prelude.{◌≡◌, ℕ, List, Result, Ok, Err, eqb}
+use Rattle.coding.specs.Lists.{pick}
+use Rattle.coding.specs.Schema.{Schema}
 use Rattle.coding.specs.Field as Field
 use Rattle.coding.specs.declared.Object.{Object}
+use Rattle.coding.specs.declared.Place.TheVariants.{ByOffset}
 use Rattle.coding.specs.declared.Found.{Found}
 use Rattle.coding.specs.declared.Found.TheVariants as Fd
 use Rattle.coding.specs.declared.Refusal.{Refusal}
@@ -40,3 +43,7 @@ gives (Ok l) j = Field.answer_of (object_part_by l.reading (object_of l.elements
 abbrev pub count : Result ListAt Refusal → ℕ
 count (Err r) = 0
 count (Ok l) = l.arrival.length
+
+-- the answer of an element that is an offset, with d objects of depth left below its list
+unfoldable pub offset_gives : ℕ → ℕ → Schema → List ℕ → Object → ℕ → Answer
+offset_gives d o S m ob x = pick (eqb x 0) A.Absent (Field.answer_of (Field.arrived d o S m ob (ByOffset x)))

@@ -1,17 +1,19 @@
 // The list reader's start and one step of it: the list that a path leads to, and the answer at one of its elements.
 #![tactic(auto)]
 
-ghost use Rattle.std.specs.Prelude.{◌≡◌, length};
+ghost use Rattle.std.specs.Prelude.{◌≡◌, ◌<◌, ◌^◌, length};
+ghost use Rattle.coding.specs.Bytes as B;
 ghost use Rattle.coding.specs.Field as F;
 ghost use Rattle.coding.specs.Positions as Po;
 ghost use Rattle.laws.specs.Sound.{ObjectSound};
 ghost use Rattle.field_arrival.specs.Within.{FoundIn, FoundShort, FoundWithin};
-ghost use Rattle.field_arrival.specs.Parts.{object_part_by};
+ghost use Rattle.field_arrival.specs.Parts.{arrived_by, object_part_by};
 ghost use Rattle.field_element.specs.Elements as E;
-ghost use Rattle.field_element.specs.Listed.{OfMessage, Starts, object_found, found_of, gives, count};
+ghost use Rattle.field_element.specs.Listed.{OfMessage, Starts, object_found, found_of, gives, count, offset_gives};
+ghost use Rattle.wire.specs.Sizes.{HasOffset};
 ghost use Rattle.schema.specs.Parsed.{parsed, bytes_of};
 
-use coding::{Answer, Found, Kind, Object, Refusal};
+use coding::{Answer, Found, Kind, Object, Place, Refusal};
 use field_arrival::Arrival;
 use positions::Indexed;
 use schema::{Reading, Schema};
@@ -129,12 +131,75 @@ fn element_at(list: &ListAt, j: usize) -> Found
     }
 }
 
+// The answer of an arrival at an object by its offset, with d objects of depth left, this one counted.
+#[tactic(auto, unfolding(coding::specs::Field::arrived, coding::specs::Field::opened, coding::specs::Field::answer_of, coding::specs::Walk::placed))]
+fn arrive_answer(reading: &Reading, d: usize, ob: Object, x: usize) -> Answer
+    requires { (ObjectSound (parsed reading.now.schema) ob) × (x < 2 ^ 48) }
+    ensures { result ≡ F.answer_of (arrived_by reading.now d ob (Place.ByOffset x)) }
+{
+    if d == 0 {
+        return Answer::Refused(field_arrival::refusal(5, x));
+    }
+    match message_object::open_object(reading, ob, Place::ByOffset(x)) {
+        Err(e) => Answer::Refused(field_arrival::refusal(e, x)),
+        Ok(content) => Answer::Object(field::record_kind(ob), x, content.length),
+    }
+}
+
+// The answer of an element that is the offset at a place of the message.
+#[tactic(auto, unfolding(crate::specs::Listed::offset_gives))]
+fn offset_answer(reading: &Reading, d: usize, ob: Object, at: usize) -> Answer
+    requires { (ObjectSound (parsed reading.now.schema) ob) × HasOffset reading.now.schema.width reading.now.message.now at }
+    ensures { result ≡ offset_gives d reading.now.schema.width (parsed reading.now.schema) reading.now.message.now ob (B.le reading.now.message.now at reading.now.schema.width) }
+{
+    let x = wire::offset_in(reading.message, at, reading.schema.width);
+    if x == 0 {
+        return Answer::Absent;
+    }
+    arrive_answer(reading, d, ob, x)
+}
+
+// The answer of element j, whatever its kind is.
+fn part_answer(list: &ListAt, j: usize) -> Answer
+    ensures { result ≡ F.answer_of (object_part_by list.now.reading (E.object_of list.now.elements) list.now.arrival j) }
+{
+    field::answer_of(element_at(list, j))
+}
+
+// The answer of element j of a list of index i in the schema; an offset is followed at once, for speed.
+fn list_answer(list: &ListAt, i: usize, j: usize) -> Answer
+    requires { list.now.elements ≡ Elements.List i }
+    ensures { result ≡ F.answer_of (object_part_by list.now.reading (E.object_of list.now.elements) list.now.arrival j) }
+{
+    let reading = &list.reading;
+    let a = list.arrival;
+    if a.length <= j {
+        return Answer::Refused(field_arrival::refusal(15, a.place));
+    }
+    match reading.schema.packed.element(i) {
+        Kind::OfObject(ob) => {
+            offset_answer(reading, a.left, ob, a.start + reading.schema.width * j)
+        }
+        Kind::OfFlat(_) | Kind::OfUnion(_) => part_answer(list, j),
+    }
+}
+
+// The answer of element j.
+fn element_answer(list: &ListAt, j: usize) -> Answer
+    ensures { result ≡ F.answer_of (object_part_by list.now.reading (E.object_of list.now.elements) list.now.arrival j) }
+{
+    match list.elements {
+        Elements::List(i) => list_answer(list, usize::from(i), j),
+        Elements::Direct(_) => part_answer(list, j),
+    }
+}
+
 // The answer of the step at element j of the list that a reader goes over, or the refusal that stands for it.
 pub fn step_answer(list: &Result<ListAt, Refusal>, j: usize) -> Answer
     ensures { result ≡ gives list.now j }
 {
     match list {
-        Ok(list) => field::answer_of(element_at(list, j)),
+        Ok(list) => element_answer(list, j),
         Err(why) => Answer::Refused(*why),
     }
 }

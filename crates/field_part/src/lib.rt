@@ -101,7 +101,7 @@ fn member_at(reading: &Reading, a: Arrival, p: Placement, r: Member) -> Step
         length: a.length,
     };
     let found = message_step::placed_step::<{ message_step::WHOLE }>(reading, part, p, r);
-    message_step::struct_tested::<{ message_step::WHOLE }>(reading, found)
+    message_step::struct_tested::<{ message_step::WHOLE }>(&reading.schema, reading.message, found)
 }
 
 // Member j of table t, by its row of the table of positions: the members before it are not looked at.

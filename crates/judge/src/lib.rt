@@ -1,7 +1,8 @@
 // The verdict of a message.
 #![tactic(auto)]
 
-ghost use Rattle.std.specs.Prelude.{◌≡◌, ◌≤◌};
+ghost use Rattle.std.specs.Prelude.{◌≡◌, ◌≤◌, true};
+ghost use Rattle.coding.specs.Lawful.{lawful};
 ghost use Rattle.coding.specs.Packed as P;
 ghost use Rattle.coding.specs.Positions as Po;
 ghost use Rattle.coding.specs.Walk as W;
@@ -63,6 +64,7 @@ fn walk_from_root(reading: &Reading, visits: u32, content: u64) -> Outcome
 
 // The verdict by a schema that was judged before: internal, since no user can show that it was.
 pub fn judged(schema: &Schema, m: &[u8], visits: u32, content: u64) -> Verdict
+    requires allowed { lawful schema.now.width (bytes_of schema.now) ≡ true }
     ensures { result ≡ W.verdict schema.now.width (bytes_of schema.now) m.now (W.allowing visits content) }
 {
     if message_start::size_ok(m, schema.width) {

@@ -32,7 +32,7 @@ fn is_harmless(schema: &Schema, k: Kind) -> bool
             Flat::Enumerated(_) => true,
             Flat::Struct(i) => schema.representative(wire::index(i)) == schema::NO_BOOL,
         },
-        _ => false,
+        Kind::OfObject(_) | Kind::OfUnion(_) => false,
     }
 }
 

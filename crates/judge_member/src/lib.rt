@@ -139,7 +139,7 @@ pub fn is_row_table(schema: &Schema, ob: Object) -> bool
                 schema::records(schema.packed.bytes, 4, first),
             )
         }
-        _ => false,
+        Object::Text | Object::Bytes | Object::List(_) | Object::DirectList(_) => false,
     }
 }
 

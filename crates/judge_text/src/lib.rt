@@ -17,7 +17,10 @@ use schema::Reading;
 pub fn is_text(ob: Object) -> bool
     ensures { result ≡ Ts.is_text ob }
 {
-    matches!(ob, Object::Text)
+    match ob {
+        Object::Text => true,
+        Object::Bytes | Object::List(_) | Object::Table(_) | Object::DirectList(_) => false,
+    }
 }
 
 // The test of a text's bytes, once its length was charged.

@@ -31,7 +31,15 @@ struct Standing {
 fn leads_nowhere(step: Step) -> bool
     ensures { result ≡ true → step ≡ Step.Absent }
 {
-    matches!(step, Step::Absent)
+    match step {
+        Step::Absent => true,
+        Step::Refused(_)
+        | Step::Value(_)
+        | Step::Unknown(_)
+        | Step::Struct(_, _)
+        | Step::Object(_, _)
+        | Step::Choice(_, _, _) => false,
+    }
 }
 
 // An arrival at an object, with this one counted in the depth that is left.
@@ -95,6 +103,7 @@ fn admit(
 
 // The members of table t, whose fixed part is the content.
 #[cycle(walk)]
+#[inline(always)]
 fn table(
     reading: &Reading,
     depth: usize,
@@ -188,6 +197,7 @@ fn reference(
 
 // The elements of list i.
 #[cycle(walk)]
+#[inline(always)]
 fn list(reading: &Reading, depth: usize, i: usize, x: Content, visits: u32, content: u64) -> Outcome
     requires in_bounds { i < P.list_count (bytes_of reading.now.schema) }
     requires length_in_bounds { x.start + T.elements_size reading.now.schema.width (parsed reading.now.schema) (Sc.element_of (parsed reading.now.schema) i) x.length ≤ length reading.now.message.now }

@@ -14,7 +14,7 @@ ghost use Rattle.message_header.specs.Headers as Hs;
 ghost use Rattle.schema.specs.Parsed.{parsed, bytes_of};
 
 use coding::{Content, Object};
-use schema::{Reading, Schema};
+use schema::Schema;
 
 // ---- headers
 // The length in the header at `at`, behind its magic. Six bytes are the upper ones of the eight that end with them: one load.
@@ -49,6 +49,7 @@ fn read_header(m: &[u8], at: usize, magic: u64, size: usize, o: usize) -> Result
 // Kept: five types beside each other, since magic, header length and header reader are to be each object type's own
 // (docs/DECISIONS.md, "Forms that paper 01 names"); what they share is `read_header`.
 // Text: length bytes and one zero byte.
+#[derive(Clone, Copy)]
 pub struct TextObject;
 
 impl TextObject {
@@ -71,6 +72,7 @@ impl TextObject {
 }
 
 // Bytes: length bytes.
+#[derive(Clone, Copy)]
 pub struct BytesObject;
 
 impl BytesObject {
@@ -93,6 +95,7 @@ impl BytesObject {
 }
 
 // List: length elements.
+#[derive(Clone, Copy)]
 pub struct ListObject;
 
 impl ListObject {
@@ -115,6 +118,7 @@ impl ListObject {
 }
 
 // Table: length bytes of fixed part. Its magic is its id.
+#[derive(Clone, Copy)]
 pub struct TableObject;
 
 impl TableObject {
@@ -136,6 +140,7 @@ impl TableObject {
 
 // Direct list: its elements stand behind each other without headers. The header says besides which table they are of, and the bytes of
 // each.
+#[derive(Clone, Copy)]
 pub struct DirectObject;
 
 impl DirectObject {
@@ -238,17 +243,22 @@ fn fit_elements(m: &[u8], c: Content, w: usize) -> Result<Content, u8>
 
 // The content that the object at `at` announces, if it fits.
 #[tactic(auto, unfolding(crate::specs::Headers::fitted, coding::specs::Walk::fit_content, coding::specs::Walk::content_size))]
-pub fn fit_content(reading: &Reading, ob: Object, at: usize, c: Content) -> Result<Content, u8>
-    requires { (ObjectSound (parsed reading.now.schema) ob) × (at < 2 ^ 60) × (c.start < 2 ^ 60) × (c.length < 2 ^ 48) }
-    ensures { result ≡ W.fit_content reading.now.schema.width (parsed reading.now.schema) reading.now.message.now ob at c.start c.length }
+pub fn fit_content(
+    schema: &Schema,
+    m: &[u8],
+    ob: Object,
+    at: usize,
+    c: Content,
+) -> Result<Content, u8>
+    requires { (ObjectSound (parsed schema.now) ob) × (at < 2 ^ 60) × (c.start < 2 ^ 60) × (c.length < 2 ^ 48) }
+    ensures { result ≡ W.fit_content schema.now.width (parsed schema.now) m.now ob at c.start c.length }
 {
-    let m = reading.message;
     let n = c.length;
     match ob {
         Object::Text => fits(m, c, text_size(n)),
         Object::Bytes | Object::Table(_) => fits(m, c, n),
-        Object::List(i) => fits(m, c, list_size(&reading.schema, usize::from(i), n)),
-        Object::DirectList(_) => fit_elements(m, c, element_size(m, at, reading.schema.width)),
+        Object::List(i) => fits(m, c, list_size(schema, usize::from(i), n)),
+        Object::DirectList(_) => fit_elements(m, c, element_size(m, at, schema.width)),
     }
 }
 
@@ -261,6 +271,6 @@ pub fn end_ok(m: &[u8], ob: Object, start: usize, n: usize) -> bool
 {
     match ob {
         Object::Text => wire::byte_in(m, start + n) == 0,
-        _ => true,
+        Object::Bytes | Object::List(_) | Object::Table(_) | Object::DirectList(_) => true,
     }
 }

@@ -12,7 +12,7 @@ ghost use Rattle.message_layout.specs.Bounds.{Laid, Stands};
 ghost use Rattle.schema.specs.Parsed.{parsed, bytes_of};
 
 use coding::{Cursor, Flat, Kind, Member, Placement, Slot};
-use schema::{Reading, Schema};
+use schema::Schema;
 
 // Nothing laid out yet.
 #[tactic(auto, unfolding(coding::specs::Layout::begin))]
@@ -213,37 +213,37 @@ pub fn place_member(schema: &Schema, r: Member, c: Cursor) -> Placed
 // Whether each bool of a struct's member at a place is a byte 0 or 1.
 #[cycle(booleans)]
 #[tactic(auto, unfolding(coding::specs::Structs::flat_ok))]
-fn field_ok(reading: &Reading, i: usize, k: Flat, at: usize) -> bool
-    requires sound { (FlatSound i k) × (i < P.struct_count (bytes_of reading.now.schema)) }
-    requires k_in_bounds { at + S.flat_width (S.struct_size (parsed reading.now.schema)) k ≤ length reading.now.message.now }
-    ensures { result ≡ S.flat_ok (S.struct_ok (parsed reading.now.schema) reading.now.message.now) reading.now.message.now k at }
+fn field_ok(schema: &Schema, m: &[u8], i: usize, k: Flat, at: usize) -> bool
+    requires sound { (FlatSound i k) × (i < P.struct_count (bytes_of schema.now)) }
+    requires k_in_bounds { at + S.flat_width (S.struct_size (parsed schema.now)) k ≤ length m.now }
+    ensures { result ≡ S.flat_ok (S.struct_ok (parsed schema.now) m.now) m.now k at }
 {
     match k {
-        Flat::Boolean => wire::byte_in(reading.message, at) <= 1,
+        Flat::Boolean => wire::byte_in(m, at) <= 1,
         Flat::Integer(_, _) | Flat::Float(_) | Flat::Enumerated(_) => true,
-        Flat::Struct(a) => struct_ok(reading, usize::from(a), at),
+        Flat::Struct(a) => struct_ok(schema, m, usize::from(a), at),
     }
 }
 
 // Whether each bool of the struct i at a place is a byte 0 or 1. It goes over the members of the struct's representative,
 // which are two or more or one that is no struct: the calls are no more than about twice the bytes, however deep the structs.
 #[cycle(booleans)]
-pub fn struct_ok(reading: &Reading, i: usize, at: usize) -> bool
-    requires { (i < P.struct_count (bytes_of reading.now.schema)) × (at + S.struct_size (parsed reading.now.schema) i ≤ length reading.now.message.now) }
-    ensures { result ≡ S.struct_ok (parsed reading.now.schema) reading.now.message.now i at }
+pub fn struct_ok(schema: &Schema, m: &[u8], i: usize, at: usize) -> bool
+    requires { (i < P.struct_count (bytes_of schema.now)) × (at + S.struct_size (parsed schema.now) i ≤ length m.now) }
+    ensures { result ≡ S.struct_ok (parsed schema.now) m.now i at }
 {
-    let s = reading.schema.representative(i);
+    let s = schema.representative(i);
     if s == schema::NO_BOOL {
         return true;
     }
-    let n = reading.schema.packed.field_count(s);
+    let n = schema.packed.field_count(s);
     let mut pos = at;
     for j in 0..n {
-        let k = reading.schema.packed.field(s, j);
-        if !field_ok(reading, s, k, pos) {
+        let k = schema.packed.field(s, j);
+        if !field_ok(schema, m, s, k, pos) {
             return false;
         }
-        pos += flat_width(&reading.schema, k);
+        pos += flat_width(schema, k);
     }
     true
 }

@@ -54,7 +54,7 @@ fn in_place(ob: Object, a: usize, n: usize) -> Result<Content, u8>
 {
     match ob {
         Object::DirectList(_) => Err(6),
-        _ => Ok(Content {
+        Object::Text | Object::Bytes | Object::List(_) | Object::Table(_) => Ok(Content {
             start: a,
             length: n,
         }),
@@ -81,7 +81,7 @@ pub fn fit_object(reading: &Reading, ob: Object, p: Place) -> Result<Content, u8
     ensures { (result ≡ W.fit_object reading.now.schema.width (parsed reading.now.schema) reading.now.message.now ob p) × Fs.LengthSmall result }
 {
     let c = content_at(reading, ob, p)?;
-    message_header::fit_content(reading, ob, placed(p), c)
+    message_header::fit_content(&reading.schema, reading.message, ob, placed(p), c)
 }
 
 // The text at an offset.
@@ -115,7 +115,7 @@ fn text_ok(m: &[u8], ob: Object, start: usize, n: usize) -> bool
 {
     match ob {
         Object::Text => utf8::is_text(m, start, n),
-        _ => true,
+        Object::Bytes | Object::List(_) | Object::Table(_) | Object::DirectList(_) => true,
     }
 }
 

@@ -241,13 +241,13 @@ pub fn placed_step<const WHOLE: bool>(
 // ---- the test of a struct that a step has found
 // A step whose struct, if it has found one, is tested. A struct that is right leads nowhere.
 #[tactic(auto, unfolding(coding::specs::Step::struct_tested, crate::specs::Lead::lead_of))]
-pub fn struct_tested<const WHOLE: bool>(reading: &Reading, s: Step) -> Step
-    requires { D.StructInside (bytes_of reading.now.schema) reading.now.message.now s }
-    ensures { (result ≡ D.told WHOLE (T.struct_tested (parsed reading.now.schema) reading.now.message.now s)) × (D.StepSmall (parsed reading.now.schema) s → D.StepSmall (parsed reading.now.schema) result) }
+pub fn struct_tested<const WHOLE: bool>(schema: &Schema, m: &[u8], s: Step) -> Step
+    requires { D.StructInside (bytes_of schema.now) m.now s }
+    ensures { (result ≡ D.told WHOLE (T.struct_tested (parsed schema.now) m.now s)) × (D.StepSmall (parsed schema.now) s → D.StepSmall (parsed schema.now) result) }
 {
     match s {
         Step::Struct(i, at) => {
-            if !message_layout::struct_ok(reading, usize::from(i), at) {
+            if !message_layout::struct_ok(schema, m, usize::from(i), at) {
                 return Step::Refused(10);
             }
             if WHOLE { s } else { Step::Absent }
@@ -279,7 +279,7 @@ pub fn member_step<const WHOLE: bool>(
 {
     let placed = message_layout::place_member(&reading.schema, r, c);
     let found = placed_step::<WHOLE>(reading, part, placed.placement, r);
-    let step = struct_tested::<WHOLE>(reading, found);
+    let step = struct_tested::<WHOLE>(&reading.schema, reading.message, found);
     SteppedMember {
         step,
         next: placed.next,
@@ -307,5 +307,5 @@ pub fn element_step(reading: &Reading, k: Kind, list: Content, i: usize) -> Step
 {
     let at = element_place(&reading.schema, k, list.start, i);
     let found = value_step::<WHOLE>(reading, k, true, false, 0, at, wire::low_three(i));
-    struct_tested::<WHOLE>(reading, found)
+    struct_tested::<WHOLE>(&reading.schema, reading.message, found)
 }

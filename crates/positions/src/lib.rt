@@ -1,8 +1,9 @@
 // The table of member positions: it is made from a lawful schema, a table that is handed in is held to it, and members are found by it.
 #![tactic(auto)]
 
-ghost use Rattle.std.specs.Prelude.{◌≡◌, ◌+◌, ◌*◌, ◌<◌, ◌≤◌, ◌^◌, length, take};
+ghost use Rattle.std.specs.Prelude.{◌≡◌, true, ◌+◌, ◌*◌, ◌<◌, ◌≤◌, ◌^◌, length, take};
 ghost use Rattle.std.proofs.lemmas.List.Edits.{sets};
+ghost use Rattle.coding.specs.Lawful.{lawful};
 ghost use Rattle.coding.specs.Layout as L;
 ghost use Rattle.coding.specs.Lists.{pick, same};
 ghost use Rattle.coding.specs.Packed as P;
@@ -199,6 +200,7 @@ fn refused(number: u8) -> WriteAnswer
 
 // The table of a schema that was found lawful: 14, or the table's length, and the table in the output.
 fn positions_judged(schema: &Schema, out: &mut [u8]) -> WriteAnswer
+    requires allowed { lawful schema.now.width (bytes_of schema.now) ≡ true }
     ensures value { result ≡ Po.positions_answer schema.now.width (bytes_of schema.now) out.old }
     ensures out_after { out.new ≡ Po.positions_out schema.now.width (bytes_of schema.now) out.old }
 {

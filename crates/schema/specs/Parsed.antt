@@ -30,5 +30,11 @@ module _ (o : ℕ) (b : List ℕ) (h : Option Schema) (e : Held o b h) where
       let k : Held o b (Some s) = subst (Held o b) is e in
       q ∙ ap (λ (w : ℕ). f w (bytes_of s)) k.1 ∙ ap (f o) k.0
 
+  -- it is lawful under its coding
+  pub held_lawful : (s : Schema) → h ≡ Some s → lawful s.width (bytes_of s) ≡ true
+  held_lawful s is =
+      let k : Held o b (Some s) = subst (Held o b) is e in
+      ap (λ (w : ℕ). lawful w (bytes_of s)) k.1 ∙ ap (lawful o) k.0 ∙ k.2
+
   pub held_none : h ≡ None → lawful o b ≡ false
   held_none is = subst (Held o b) is e

@@ -1,9 +1,8 @@
-// A packed schema with its directory, a schema that was found lawful, and a message that is read by it: what those who read and write
-// by a schema are lent.
+// A packed schema with its directory, a well-formed schema under a coding, and a message that is read by it: what those who read and
+// write by a schema are lent.
 #![tactic(auto)]
 
-ghost use Rattle.std.specs.Prelude.{◌≡◌, true, ℕ, ◌+◌, ◌<◌, ◌≤◌, ◌^◌, length, get_or};
-ghost use Rattle.coding.specs.Lawful.{lawful};
+ghost use Rattle.std.specs.Prelude.{◌≡◌, ℕ, ◌+◌, ◌<◌, ◌≤◌, ◌^◌, length, get_or};
 ghost use Rattle.coding.specs.Packed as P;
 ghost use Rattle.coding.specs.Schema as Sc;
 ghost use Rattle.coding.specs.Structs as S;
@@ -26,14 +25,14 @@ pub struct Packed<'a> {
     pub ghost places: { Directory bytes.now directory.now },
 }
 
-// A schema that is lawful under a coding, by the width of that coding's offsets.
+// A well-formed schema, and a coding by the width of its offsets. The few who need that the schema is lawful under that coding ask for
+// it in a clause.
 #[derive(Clone, Copy)]
 pub struct Schema<'a> {
     pub packed: Packed<'a>,
     pub width: usize,
     pub ghost accepted: { Accepted packed.bytes.now packed.directory.now },
     pub ghost coded: { Width width },
-    pub ghost allowed: { lawful width packed.bytes.now ≡ true },
 }
 
 // A message that is read by a schema. It is no longer than a message may be.
@@ -144,7 +143,7 @@ impl<'a> Packed<'a> {
     }
 }
 
-// ---- what else a lawful schema has
+// ---- what else a well-formed schema has
 impl<'a> Schema<'a> {
     ghost use Rattle.schema.specs.Parsed.{parsed, bytes_of};
 

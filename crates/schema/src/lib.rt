@@ -256,7 +256,10 @@ pub fn member_at(b: &[u8], at: usize) -> Member
 pub fn is_blob(ob: Object) -> bool
     ensures { result ≡ is_blob ob }
 {
-    matches!(ob, Object::Text | Object::Bytes)
+    match ob {
+        Object::Text | Object::Bytes => true,
+        Object::List(_) | Object::Table(_) | Object::DirectList(_) => false,
+    }
 }
 
 // The bytes of an integer; 0 for what is none.

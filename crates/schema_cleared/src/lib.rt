@@ -1,7 +1,8 @@
 // A schema in which only the in-place flag of its unions is cleared: messages with such unions are moved over to it (02, K12).
 #![tactic(auto)]
 
-ghost use Rattle.std.specs.Prelude.{◌≡◌, ◌+◌, ◌<◌, ◌≤◌, length, get_or, set};
+ghost use Rattle.std.specs.Prelude.{◌≡◌, true, ◌+◌, ◌<◌, ◌≤◌, length, get_or, set};
+ghost use Rattle.coding.specs.Lawful.{lawful};
 ghost use Rattle.coding.specs.Packed as P;
 ghost use Rattle.coding.specs.Message.{write_room, write_over};
 ghost use Rattle.coding.specs.Moving as M;
@@ -97,7 +98,8 @@ fn refused(number: u8) -> WriteAnswer
 
 // A schema that is lawful under the 48-bit coding: 14, or else its bytes with the flags cleared.
 fn clear_lawful(schema: &Schema, out: &mut [u8]) -> WriteAnswer
-    requires { schema.now.width ≡ 6 }
+    requires allowed { lawful schema.now.width (bytes_of schema.now) ≡ true }
+    requires six { schema.now.width ≡ 6 }
     ensures value { result ≡ write_room (M.clearing (bytes_of schema.now)) (length out.old) }
     ensures out_after { out.new ≡ write_over (M.clearing (bytes_of schema.now)) out.old }
 {

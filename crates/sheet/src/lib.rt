@@ -1,7 +1,8 @@
 // Reading to a sheet: an accepted message's entries are counted and then stored, and the answer.
 #![tactic(auto)]
 
-ghost use Rattle.std.specs.Prelude.{◌≡◌, ◌≤◌, length};
+ghost use Rattle.std.specs.Prelude.{◌≡◌, ◌≤◌, true, length};
+ghost use Rattle.coding.specs.Lawful.{lawful};
 ghost use Rattle.coding.specs.Bits.{packed, byte_count};
 ghost use Rattle.coding.specs.Message as M;
 ghost use Rattle.coding.specs.Positions as Po;
@@ -69,6 +70,7 @@ fn read_accepted(reading: &Reading, v: Verdict, out: &mut [u8]) -> ReadAnswer
 
 // Reads a message by a schema that was found lawful.
 fn read_judged(schema: &Schema, m: &[u8], budget: Budget, out: &mut [u8]) -> ReadAnswer
+    requires allowed { lawful schema.now.width (bytes_of schema.now) ≡ true }
     ensures value { result ≡ M.read_answer schema.now.width (bytes_of schema.now) m.now budget out.old }
     ensures out_after { out.new ≡ M.read_out schema.now.width (bytes_of schema.now) m.now budget out.old }
 {

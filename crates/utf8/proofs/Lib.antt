@@ -3,3 +3,4 @@ pub mod TableLaws
 pub mod OctetLaws
 pub mod StepLaws
 pub mod ShortLaws
+pub mod LastArm

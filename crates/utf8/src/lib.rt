@@ -162,7 +162,7 @@ fn is_all_text(s: &[u8]) -> bool
         }
     }
     let i = past_eights(s, 64 * blocks, w);
-    may_end(after_bytes(s, i, s.len() - i, w))
+    after_bytes(s, i, s.len() - i, w) % 64 == BEGIN
 }
 
 // Whether the n bytes of m from start are text, by blocks and through the table. It stands out of line, so that what tells short

@@ -1,7 +1,8 @@
 // Writing a message from a value sheet: the sheet is surveyed first, and then one pass over it stores the message.
 #![tactic(auto)]
 
-ghost use Rattle.std.specs.Prelude.{◌≡◌, false, ℕ, ◌+◌, ◌*◌, ◌≤◌, length, drop};
+ghost use Rattle.std.specs.Prelude.{◌≡◌, true, false, ℕ, ◌+◌, ◌*◌, ◌≤◌, length, drop};
+ghost use Rattle.coding.specs.Lawful.{lawful};
 ghost use Rattle.coding.specs.Bits.{bits};
 ghost use Rattle.coding.specs.Bytes as B;
 ghost use Rattle.coding.specs.Message as M;
@@ -70,7 +71,8 @@ fn emit_message(schema: &Schema, s: &[u8], e: Extent, out: &mut [u8]) -> Option<
 
 // Writes a lawful sheet, whose root table takes e: 12, 13 or 14, or else the message.
 fn write_lawful(schema: &Schema, s: &[u8], e: Extent, out: &mut [u8]) -> WriteAnswer
-    requires { Wr.LawfulSheet schema.now.width (bytes_of schema.now) s.now e }
+    requires allowed { lawful schema.now.width (bytes_of schema.now) ≡ true }
+    requires sheet_lawful { Wr.LawfulSheet schema.now.width (bytes_of schema.now) s.now e }
     ensures value { result ≡ M.write_answer schema.now.width (bytes_of schema.now) s.now out.old }
     ensures out_after { out.new ≡ M.write_out schema.now.width (bytes_of schema.now) s.now out.old }
 {
@@ -93,6 +95,7 @@ fn write_lawful(schema: &Schema, s: &[u8], e: Extent, out: &mut [u8]) -> WriteAn
 
 // Writes a sheet by a schema that was found lawful: 11, or as a lawful sheet.
 fn write_judged(schema: &Schema, s: &[u8], out: &mut [u8]) -> WriteAnswer
+    requires allowed { lawful schema.now.width (bytes_of schema.now) ≡ true }
     ensures value { result ≡ M.write_answer schema.now.width (bytes_of schema.now) s.now out.old }
     ensures out_after { out.new ≡ M.write_out schema.now.width (bytes_of schema.now) s.now out.old }
 {

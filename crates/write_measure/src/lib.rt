@@ -568,7 +568,7 @@ fn blob_end(ob: Object) -> Option<usize>
     match ob {
         Object::Text => Some(1),
         Object::Bytes => Some(0),
-        _ => None,
+        Object::List(_) | Object::Table(_) | Object::DirectList(_) => None,
     }
 }
 
@@ -687,6 +687,20 @@ fn simple_members(
 }
 
 // ---- simple elements: flat values, texts and bytes, which need no walk to other objects either.
+// A list's float or enum, present, behind its mark; told outside the structs' cycle, for speed.
+fn scalar_test(schema: &Schema, s: &[u8], pos: usize, k: Flat) -> Option<Tested>
+    requires { (FlatSound (length (parsed schema.now).structs) k) × By.Inside s.now pos }
+    ensures { By.Tests s.now pos (By.flat (bytes_of schema.now) true k) result }
+{
+    match k {
+        Flat::Float(w) => float_number(s, pos, true, w),
+        Flat::Enumerated(n) => enum_known(s, pos, n),
+        Flat::Boolean | Flat::Integer(_, _) | Flat::Struct(_) => {
+            flat_test(schema, s, pos, true, k)
+        }
+    }
+}
+
 // A list's float or enum, with its mark: no other flat element has one.
 fn scalar_element(schema: &Schema, s: &[u8], k: Flat, pos: usize) -> Option<Tested>
     requires { (FlatSound (length (parsed schema.now).structs) k) × By.Inside s.now pos }
@@ -698,7 +712,7 @@ fn scalar_element(schema: &Schema, s: &[u8], k: Flat, pos: usize) -> Option<Test
             next: m.next,
             fine: true,
         }),
-        Mark::Present => flat_test(schema, s, m.next, true, k),
+        Mark::Present => scalar_test(schema, s, m.next, k),
         Mark::Unknown => flat_unknown(s, m.next, k),
     }
 }

@@ -88,6 +88,7 @@ fn emit_bool(s: &[u8], out: &mut [u8], from: Emitted) -> Option<Emitted>
 }
 
 // An enum's number below its count.
+#[inline(always)]
 fn emit_enum(s: &[u8], out: &mut [u8], n: u8, from: Emitted) -> Option<Emitted>
     requires { Room s.now from }
     ensures { By.Emits s.now from (Es.emit_if 8 (Sv.below_count n) St.put_byte) out.old 0 result out.new }
@@ -102,6 +103,7 @@ fn emit_enum(s: &[u8], out: &mut [u8], n: u8, from: Emitted) -> Option<Emitted>
 }
 
 // An enum's unknown number, passed over.
+#[inline(always)]
 fn pass_enum(s: &[u8], out: &mut [u8], n: u8, from: Emitted) -> Option<Emitted>
     requires { Room s.now from }
     ensures { By.Emits s.now from (Es.emit_if 8 (Sh.unknown_enum n) Es.put_nothing) out.old 0 result out.new }
@@ -114,6 +116,7 @@ fn pass_enum(s: &[u8], out: &mut [u8], n: u8, from: Emitted) -> Option<Emitted>
 }
 
 // An enum of a struct or of a list: its mark, and its number; 255 where there is no known one.
+#[inline(always)]
 fn emit_marked_enum(s: &[u8], out: &mut [u8], n: u8, from: Emitted) -> Option<Emitted>
     requires { Room s.now from }
     ensures { By.Emits s.now from (Eg.emit_marked_enum n) out.old 0 result out.new }
@@ -173,7 +176,7 @@ fn emit_struct(
     let mut at = from;
     for j in 0..n {
         let k = schema.packed.field(i, j);
-        at = emit_field(schema, s, out, i, k, at)?;
+        at = kept(emit_field(schema, s, out, i, k, at)?);
     }
     Some(kept(at))
 }
@@ -276,6 +279,7 @@ fn pass(schema: &Schema, s: &[u8], out: &mut [u8], k: Kind, from: Emitted) -> Op
 
 // ---- elements with a mark that lead to no object
 // A list's float of w bytes: its mark, and its number; a NaN where there is none.
+#[inline(always)]
 fn emit_marked_float(s: &[u8], out: &mut [u8], w: u8, from: Emitted) -> Option<Emitted>
     requires w_bound { w ≤ 8 }
     requires room { Room s.now from }
@@ -293,6 +297,7 @@ fn emit_marked_float(s: &[u8], out: &mut [u8], w: u8, from: Emitted) -> Option<E
 }
 
 // An element that is a float or an enum, with its mark: no other flat element has one.
+#[inline(always)]
 fn emit_marked_flat(
     schema: &Schema,
     s: &[u8],
@@ -644,7 +649,7 @@ fn known_size(schema: &Schema, ob: Object) -> Option<usize>
 {
     match ob {
         Object::Table(t) => known_table(schema, usize::from(t)),
-        _ => None,
+        Object::Text | Object::Bytes | Object::List(_) | Object::DirectList(_) => None,
     }
 }
 

@@ -3,8 +3,8 @@ use Rattle.std.proofs.Common.{◌+◌, ◌-◌, ◌*◌, arith}
 use Rattle.bitio.proofs.Runs.{run_none, run-field}
 use Rattle.bitio.proofs.get_short.Goals as goal
 
-pub returns-then-k-eq64 : goal.returns-then-k-eq64
-returns-then-k-eq64 c = let a = c.args in
+pub returns-then-width-eq0 : goal.returns-then-width-eq0
+returns-then-width-eq0 c = let a = c.args in
     run_none a.s.now a.pos a.width (omega arith)
 
 pub returns : goal.returns

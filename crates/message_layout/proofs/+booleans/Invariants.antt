@@ -14,5 +14,5 @@ abbrev pub decreases-struct_ok : goal.decreases-struct_ok
 decreases-struct_ok l = 2 * l.i + 1
 
 abbrev pub invariant-struct_ok-loop-j : goal.invariant-struct_ok-loop-j
-invariant-struct_ok-loop-j l = (struct_ok (parsed l.reading.schema) l.reading.message.now l.i l.at ≡ flats_ok (struct_ok (parsed l.reading.schema) l.reading.message.now) (parsed l.reading.schema) l.reading.message.now (drop l.j (Sc.struct_of (parsed l.reading.schema) l.s)) l.pos)
-    × (l.pos + total (struct_size (parsed l.reading.schema)) (drop l.j (Sc.struct_of (parsed l.reading.schema) l.s)) ≤ length l.reading.message.now) × (l.s < P.struct_count (bytes_of l.reading.schema)) × (l.s ≤ l.i)
+invariant-struct_ok-loop-j l = (struct_ok (parsed l.schema) l.m l.i l.at ≡ flats_ok (struct_ok (parsed l.schema) l.m) (parsed l.schema) l.m (drop l.j (Sc.struct_of (parsed l.schema) l.s)) l.pos)
+    × (l.pos + total (struct_size (parsed l.schema)) (drop l.j (Sc.struct_of (parsed l.schema) l.s)) ≤ length l.m) × (l.s < P.struct_count (bytes_of l.schema)) × (l.s ≤ l.i)

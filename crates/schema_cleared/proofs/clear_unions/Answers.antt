@@ -1,9 +1,10 @@
 -- `clear_unions` meets its contract.
+use Rattle.schema.specs.Parsed.{held_lawful}
 use Rattle.schema_cleared.proofs.ClearCases.{held_wide, held_answer, held_out, refused_answer, refused_out}
 use Rattle.schema_cleared.proofs.clear_unions.Goals as goal
 
 pub clear_lawful-requires : goal.clear_lawful-requires
-clear_lawful-requires c = search held_wide
+clear_lawful-requires c = record { allowed = search held_lawful; six = search held_wide }
 
 pub returns-in-Some : goal.returns-in-Some
 returns-in-Some c = record { value = search held_answer; out_after = search held_out }

@@ -1,4 +1,5 @@
 use Rattle.std.proofs.Common.{◌*◌, ◌/◌, length, arith}
+use Rattle.utf8.proofs.OctetLaws.{word_ends}
 use Rattle.utf8.proofs.StepLaws.{onward-begin, onward_then, onward_to, no_text, text-end}
 use Rattle.utf8.proofs.is_all_text.Goals as goal
 
@@ -15,4 +16,4 @@ pub returns : goal.returns
 returns c = let s = c.args.s.now in
     let l = c.loop-j in
     let here = onward_to s 0 (64 * l.j) (64 * (length s / 64)) 0 l.w (omega arith) l.invariant in
-    text-end _ _ _ _ _ c.past_eights-i.ensures.0 (onward_then _ _ _ _ _ _ _ here c.past_eights-i.ensures.1) c.after_bytes.ensures c.may_end.ensures
+    text-end _ _ _ _ _ c.past_eights-i.ensures.0 (onward_then _ _ _ _ _ _ _ here c.past_eights-i.ensures.1) c.after_bytes.ensures (word_ends _ c.after_bytes.ensures.holds)

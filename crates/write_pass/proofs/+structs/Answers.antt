@@ -41,11 +41,11 @@ emit_struct-field-k-requires t c = (search rules, search field-counted, omega (a
 pub emit_struct-emit_field-requires : goal.emit_struct-emit_field-requires
 emit_struct-emit_field-requires t c = search (field_sound, going_room, rules)
 
-pub emit_struct-returns-in_err-at : goal.emit_struct-returns-in_err-at
-emit_struct-returns-in_err-at t c = search (fields-cut, c.in_err-at.ensures)
+pub emit_struct-returns-in_err-emit_field : goal.emit_struct-returns-in_err-emit_field
+emit_struct-returns-in_err-emit_field t c = search (fields-cut, c.in_err-emit_field.ensures)
 
 pub emit_struct-loop-j-preserved : goal.emit_struct-loop-j-preserved
-emit_struct-loop-j-preserved t c = (search rules, search rules, search rules, search (fields_turn, c.in_ok-at.ensures))
+emit_struct-loop-j-preserved t c = (search rules, search rules, search rules, search (fields_turn, c.in_ok-emit_field.ensures))
 
 pub emit_struct-returns : goal.emit_struct-returns
 emit_struct-returns t c = search fields_done

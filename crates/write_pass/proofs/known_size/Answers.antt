@@ -9,5 +9,5 @@ known_table-requires c = search (table_counted, rules)
 pub returns-in-Table : goal.returns-in-Table
 returns-in-Table c = search known-table
 
-pub returns-in_default : goal.returns-in_default
-returns-in_default c = search known_none
+pub returns-in-Text : goal.returns-in-Text
+returns-in-Text c = search known_none
