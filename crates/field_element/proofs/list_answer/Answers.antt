@@ -21,7 +21,8 @@ offset_answer-requires c = let list = c.args.list.now in
     (offset_sound _ _ list.reading.schema.accepted _ _ c.element.ensures _ c.in-OfObject.is, offset_there _ _ _ _ list.arrival list.inside list.reading.within _ _ c.requires (omega (arith, c.if-a-j.false)) _ c.element.ensures _ c.in-OfObject.is)
 
 pub returns-then-a-j : goal.returns-then-a-j
-returns-then-a-j c = past_listed _ _ _ _ _ c.requires c.if-a-j.true _ c.refusal.ensures
+returns-then-a-j c = let list = c.args.list.now in
+    past_listed list.reading list.arrival _ _ _ c.requires c.if-a-j.true _ c.refusal.ensures
 
 pub returns-in-OfObject : goal.returns-in-OfObject
 returns-in-OfObject c = search offset_listed
