@@ -57,7 +57,9 @@ fn verdict(schema: &[u8], message: &[u8], visits: u32, o: usize) -> Verdict
 }
 
 fn print_verdict(rt: &impl Print, v: Verdict) -> io::Result<()> {
-    println!(rt; "{} {} {}", v.number, v.place, v.visits)
+    print!(rt; "{} ", v.number)?;
+    print!(rt; "{} ", v.place)?;
+    println!(rt; "{}", v.visits)
 }
 
 // One case, whose width, lengths and budget were read: answers whether the file holds it whole.

@@ -64,5 +64,7 @@ fn main(rt: HostRuntime) -> io::Result<()> {
     let mut message = [0u8; 65537];
     let m = load(&rt, "message.bin", &mut message);
     let v = verdict(&schema[..s], &message[..m]);
-    println!(rt; "{} {} {}", v.number, v.place, v.visits)
+    print!(rt; "{} ", v.number)?;
+    print!(rt; "{} ", v.place)?;
+    println!(rt; "{}", v.visits)
 }
