@@ -268,6 +268,7 @@ fn elements(
 
 // The objects of a list, by their offsets.
 #[cycle(walk)]
+#[inline(always)]
 fn references(
     reading: &Reading,
     depth: usize,
@@ -328,6 +329,7 @@ fn refer(
 
 // The choices of a list of union i.
 #[cycle(walk)]
+#[inline(always)]
 fn choices(
     reading: &Reading,
     depth: usize,
