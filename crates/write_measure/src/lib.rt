@@ -171,6 +171,7 @@ fn enum_field(s: &[u8], pos: usize, n: u8) -> Option<Tested>
 // ---- structs, by recursion on the struct index, which falls at every inner struct
 // A flat value of a member or an element, present, behind its mark.
 #[cycle(structs)]
+#[inline(always)]
 fn flat_test(schema: &Schema, s: &[u8], pos: usize, optional: bool, k: Flat) -> Option<Tested>
     requires { (FlatSound (length (parsed schema.now).structs) k) × By.Inside s.now pos }
     ensures { By.Tests s.now pos (By.flat (bytes_of schema.now) optional k) result }
