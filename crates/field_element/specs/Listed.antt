@@ -1,5 +1,9 @@
 -- What a list reader starts from, what its steps answer, and how many elements it has.
-use Rattle.std.specs.Prelude.{◌≡◌, ℕ, List, Result, Ok, Err, eqb}
+use Rattle.std.specs.Prelude.{◌≡◌, Bool, true, false, ℕ, List, Result, Ok, Err, eqb}
+use Rattle.std.proofs.Math.Path.{refl}
+use Rattle.std.proofs.Common.{ap, ◌∙◌, subst}
+use Rattle.coding.specs.Lawful.{lawful}
+use Rattle.coding.specs.Packed.{parse}
 use Rattle.coding.specs.Lists.{pick}
 use Rattle.coding.specs.Schema.{Schema}
 use Rattle.coding.specs.Field as Field
@@ -34,6 +38,30 @@ OfMessage o b m (Ok l) = (l.reading.schema.width ≡ o) × (bytes_of l.reading.s
 pub record Starts (o : ℕ) (b m path : List ℕ) (h : Result ListAt Refusal) : Type 0 where
   pub found : found_of h ≡ Field.reader_start o b m path
   pub of_message : OfMessage o b m h
+
+-- what was found is no refusal; by a schema that is not lawful it is the refusal 1
+abbrev NoRefusal : Found → Type 0
+NoRefusal (Fd.Refused r) = ⊥
+NoRefusal Fd.Absent = Unit {0}
+NoRefusal (Fd.Unknown x) = Unit {0}
+NoRefusal (Fd.Value k x holder) = Unit {0}
+NoRefusal (Fd.Struct i at holder) = Unit {0}
+NoRefusal (Fd.Object ob at start n d) = Unit {0}
+
+module _ (S : Schema) (f g : Found) where
+  found_lawful : (t : Bool) → NoRefusal g → g ≡ Field.reader_of S (pick t f (Field.before 1)) → t ≡ true
+  unfolding Field.reader_of Field.before
+  found_lawful true is e = refl
+  found_lawful false is e = absurd (subst NoRefusal e is)
+
+-- so the schema of the list that a reader goes over is lawful under its coding
+pub started_lawful : (o : ℕ) (b m path : List ℕ) (h : Result ListAt Refusal) → Starts o b m path h
+    → (l : ListAt) → h ≡ Ok l → lawful l.reading.schema.width (bytes_of l.reading.schema) ≡ true
+unfolding Field.reader_start Field.field_found
+started_lawful o b m path h s l is =
+    let k : Starts o b m path (Ok l) = subst (Starts o b m path) is s in
+    let w = k.of_message in
+    ap (λ (x : ℕ). lawful x (bytes_of l.reading.schema)) w.0 ∙ ap (lawful o) w.1 ∙ found_lawful (parse b) _ (found_of (Ok l)) (lawful o b) tt k.found
 
 -- the answer of the step at element j, and how many elements there are
 abbrev pub gives : Result ListAt Refusal → ℕ → Answer

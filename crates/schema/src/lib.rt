@@ -1,7 +1,7 @@
 // The packed schema: where everything in it stands, and what stands there.
 //
 // The directory is an array of DIRECTORY numbers that the caller lends: where each struct stands, the first list, each union
-// and each table; the size of each struct, and its representative. `Packed` holds both, `Schema` a schema that was found lawful,
+// and each table; the size of each struct, and its representative. `Packed` holds both, `Schema` a well-formed schema under a coding,
 // and `Reading` a message that is read by one.
 #![tactic(auto)]
 
